@@ -1,0 +1,3 @@
+pub mod Days
+pub mod Sums
+pub mod Original

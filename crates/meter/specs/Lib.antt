@@ -1,0 +1,4 @@
+pub mod Refusals
+pub mod Meaning
+pub mod Cells
+pub mod Recording

@@ -1,0 +1,3 @@
+pub mod Ranking
+pub mod Choice
+pub mod Summing

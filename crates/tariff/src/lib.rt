@@ -1,0 +1,3 @@
+// The tariff: its plain data here, its rules and their laws in specs/.
+pub mod fault;
+pub mod reading;
