@@ -11,6 +11,7 @@ use Rattle.std.proofs.shelf.Elements.{all-take}
 use Rattle.std.proofs.shelf.Lists.{getD-map}
 use Rattle.std.proofs.shelf.Sums.{sumBy-cons}
 use Rattle.std.specs.declared.option.Option.the-variants.{Some, None}
+use Rattle.std.specs.declared.result.Result.{Result}
 use Rattle.std.specs.declared.result.Result.the-variants.{Ok, Err}
 use Rattle.tariff.specs.Tables.{Table, load}
 use Rattle.tariff.specs.Counting.{total}
@@ -19,11 +20,10 @@ use Rattle.tariff.specs.Faults.{comparison-fault}
 use Rattle.tariff.specs.declared.fault.BaselineFault.{BaselineFault}
 use Rattle.tariff.specs.Baseline.{afternoon, highest-of, base-of}
 use Rattle.tariff.proofs.Ranking.{all-counting, all-ranked}
-use Rattle.tariff.proofs.Summing.{total-same}
 use Rattle.baseline.specs.Days.{day-loads, days-read, fault-or}
-use Rattle.baseline.specs.Original.{original-of, original-read}
+use Rattle.baseline.specs.Original.{original-of, original-read, original-from, Original-of-loads}
 use Rattle.baseline.proofs.TenDays.{fault-none, fault-some}
-use Rattle.baseline.specs.Sums.{past-14, afternoon-of, totals-of, load-at, sum-at, bases-of}
+use Rattle.baseline.specs.Sums.{afternoon-of, totals-of, load-at, sum-at, bases-of}
 
 module _ (t : Table) where
   pub loads-at : (d h : ℕ) → h < 24 → getD (day-loads t d) h 0 ≡ load t d h
@@ -33,8 +33,8 @@ module _ (t : Table) where
       getD-map (load t d) (counting 0 24) h 0 0 (omega arith) ∙ ap (load t d) (getD-counting 0 24 h 0 l ∙ omega arith)
 
   afternoon-shown : (d : ℕ) → afternoon-of (day-loads t d) ≡ afternoon t d
-  unfolding afternoon-of afternoon
-  afternoon-shown d = total-same (past-14 (day-loads t d)) (λ k. load t d (14 + k)) 6 (λ k l. loads-at d (14 + k) (omega arith))
+  unfolding afternoon day-loads total
+  afternoon-shown d = refl
 
   pub totals-shown : (days : List ℕ) → totals-of (map (day-loads t) days) ≡ map (afternoon t) days
   unfolding totals-of
@@ -69,19 +69,23 @@ module _ (t : Table) where
       let places : List ℕ = three-highest (map (afternoon t) days) in
       map-same (sum-at (map (day-loads t) days) places) (λ h. sumBy (λ d. load t d h) (map (λ p. getD days p 0) places)) (counting 0 24) (all-counting _ 0 24 (λ h a b. sum-shown days h (omega arith) places (places-within days)))
 
-  -- loads that were read, and what is made of them, are the original baseline
-  pub original-shown : (days : List ℕ) (loads : List (List ℕ)) (totals highest bases : List ℕ) → Ok loads ≡ days-read t days → totals ≡ totals-of loads → highest ≡ three-highest totals → bases ≡ bases-of loads highest → Ok (record { totals = totals; highest = highest; bases = bases }) ≡ original-read t days
+  original-shown : (days : List ℕ) (loads : List (List ℕ)) → Ok loads ≡ days-read t days → Ok (original-from loads) ≡ original-read t days
   unfolding days-read original-read
-  original-shown days loads totals highest bases e et eh eb =
+  original-shown days loads e =
       let w = fault-none (comparison-fault t days) (map (day-loads t) days) loads e in
-      let all-totals : totals ≡ map (afternoon t) days = et ∙ ap totals-of (w .1) ∙ totals-shown days in
-      let all-highest : highest ≡ three-highest (map (afternoon t) days) = eh ∙ ap three-highest all-totals in
-      let all-bases : bases ≡ map (base-of t days) (counting 0 24) = eb ∙ ap₂ bases-of (w .1) all-highest ∙ bases-shown days in
+      let totals : totals-of loads ≡ map (afternoon t) days = ap totals-of (w .1) ∙ totals-shown days in
+      let highest : three-highest (totals-of loads) ≡ three-highest (map (afternoon t) days) = ap three-highest totals in
+      let bases : bases-of loads (three-highest (totals-of loads)) ≡ map (base-of t days) (counting 0 24) = ap₂ bases-of (w .1) highest ∙ bases-shown days in
       let none : comparison-fault t days ≡ None = w .0 in
       cc
 
-  pub original-gap : (days : List ℕ) (f : BaselineFault) → Err f ≡ days-read t days → Err f ≡ original-read t days
+  original-gap : (days : List ℕ) (f : BaselineFault) → Err f ≡ days-read t days → Err f ≡ original-read t days
   unfolding days-read original-read
   original-gap days f e =
       let some : comparison-fault t days ≡ Some f = fault-some (comparison-fault t days) (map (day-loads t) days) f e in
       ap (λ o. fault-or o (original-of t days)) (sym some)
+
+  -- what was read of days tells their original baseline
+  pub original-told : (days : List ℕ) (r : Result (List (List ℕ)) BaselineFault) → r ≡ days-read t days → Original-of-loads t days r
+  original-told days (Ok loads) e = original-shown days loads e
+  original-told days (Err f) e = original-gap days f e

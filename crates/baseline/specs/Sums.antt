@@ -1,18 +1,13 @@
 -- Sums over the loads of days that were read.
 use mathlib.Core.List.{List, [], map}
-use Prim.Native.Nat.{ℕ, _+_}
-use lib.ListN.{getD}
+use Prim.Native.Nat.{ℕ}
+use lib.ListN.{getD, take, drop}
 use Rattle.std.specs.Iters.{counting}
-use Rattle.std.specs.shelf.Lists.{sumBy}
-use Rattle.tariff.specs.Counting.{total}
-
--- the load of the k-th hour from 14:00 on
-abbrev pub past-14 : List ℕ → ℕ → ℕ
-past-14 loads k = getD loads (14 + k) 0
+use Rattle.std.specs.shelf.Lists.{sum, sumBy}
 
 -- what a day drew from 14:00 to 20:00
-unfoldable pub afternoon-of : List ℕ → ℕ
-afternoon-of loads = total (past-14 loads) 6
+abbrev pub afternoon-of : List ℕ → ℕ
+afternoon-of loads = sum (take 6 (drop 14 loads))
 
 -- the same of each of some days
 unfoldable pub totals-of : List (List ℕ) → List ℕ

@@ -56,15 +56,24 @@ fn last_three(totals: &[u64; 10]) -> [usize; 3]
     }
 }
 
-// The places of the three highest of ten totals, the latest day's first: the highest first, and the later day first among equals.
-pub fn three_highest(totals: &[u64; 10]) -> [usize; 3]
+// The three highest of the last three places, and then of all: the places before them come in one by one.
+fn with_earlier_places(totals: &[u64; 10], last: [usize; 3]) -> [usize; 3]
+    requires { ⌜ last ≡ ranked (total-at (now totals)) (7 ∷ 8 ∷ 9 ∷ []) ⌝ }
     ensures value { λ r. ⌜ r ≡ three-highest (now (totals .entry)) ⌝ }
     ensures highest { λ r. ⌜ Highest (now (totals .entry)) r ⌝ }
 {
-    let mut top = last_three(totals);
+    let mut top = last;
     for place in (0..7).rev() {
         let next = with_place(totals, place, top);
         top = next;
     }
     top
+}
+
+// The places of the three highest of ten totals, the latest day's first: the highest first, and the later day first among equals.
+pub fn three_highest(totals: &[u64; 10]) -> [usize; 3]
+    ensures value { λ r. ⌜ r ≡ three-highest (now (totals .entry)) ⌝ }
+    ensures highest { λ r. ⌜ Highest (now (totals .entry)) r ⌝ }
+{
+    with_earlier_places(totals, last_three(totals))
 }

@@ -3,6 +3,7 @@ ghost use mathlib.Core.List.{[]};
 ghost use Prim.Native.Nat.{ℕ, _<_, _≤_};
 ghost use lib.ListN.{getD};
 ghost use Rattle.std.specs.Vec.{made};
+ghost use Rattle.baseline.specs.Original.{Original-of-loads};
 ghost use Rattle.baseline.specs.Days.{«hour-read», «day-read», «days-read», Small};
 use meter::hour::SummerHour;
 use meter::meter::Meter;
@@ -53,6 +54,7 @@ pub(crate) fn read_days<M: Meter>(
 ) -> Result<[[u32; 24]; 10], BaselineFault>
     requires { ⌜ ((k : ℕ) → k < 10 → getD (now days) k 0 ≤ 75) ⌝ }
     ensures answer { λ r. ⌜ r ≡ days-read (table (now (meter .entry))) (now (days .entry)) ⌝ }
+    ensures original { λ r. ⌜ Original-of-loads (table (now (meter .entry))) (now (days .entry)) r ⌝ }
     ensures bound { λ r. ⌜ made r (λ read. (k : ℕ) → k < 10 → Small (getD read k [])) ⌝ }
     ensures keeps { λ _. ⌜ table (now (meter .exit)) ≡ table (now (meter .entry)) ⌝ }
 {

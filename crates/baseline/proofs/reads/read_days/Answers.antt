@@ -5,7 +5,8 @@ use lib.ListN.{length, getD, length-set}
 use Rattle.std.specs.declared.result.Result.the-variants.{Ok, Err}
 use Rattle.std.proofs.shelf.Results.{err-from-errBy, made-from-err}
 use Rattle.tariff.specs.declared.fault.Use.the-variants.{Comparison}
-use Rattle.baseline.specs.Days.{day-read}
+use Rattle.baseline.specs.Days.{day-read, days-read}
+use Rattle.baseline.proofs.Shown.{original-told}
 use Rattle.baseline.proofs.TenDays.{read-of, got-more, days-whole, days-gap}
 use Rattle.baseline.proofs.reads.read_days.Needs as need
 
@@ -19,8 +20,10 @@ returns-in-Break-read g c =
     let here : Err f ≡ day-read t Comparison (getD days i 0) =
     read-of _ t Comparison (getD days i 0) (Err f) (kept .0) (c .in-Break-read .ensures tt .answer) in
     let p = err-from-errBy (c .from-residual .result) (c .from-residual .ensures .1) in
+    let told : c .from-residual .result ≡ days-read t days = p .1 ∙ ap Err (p .2) ∙ days-gap t days (c .loop-place .read) i f (c .told-days) (omega arith) (λ k l. kept .2 k (omega arith)) here in
     record {
-      answer = p .1 ∙ ap Err (p .2) ∙ days-gap t days (c .loop-place .read) i f (c .told-days) (omega arith) (λ k l. kept .2 k (omega arith)) here;
+      answer = told;
+      original = original-told t days (c .from-residual .result) told;
       bound = made-from-err (c .from-residual .result) _ (c .from-residual .ensures .0);
       keeps = c .read-day .ensures .keeps ∙ kept .0;
     }
@@ -44,9 +47,13 @@ loop-place-again g c =
 pub returns : need.returns
 returns g c =
     let t = g .M·Meter .table (c .args .meter .now) in
+    let days = c .args .days .now in
+    let read = c .loop-place .read in
     let kept = c .loop-place .inv in
+    let told : Ok read ≡ days-read t days = days-whole t days read (c .told-days) (kept .1) (λ k. kept .2 k (omega arith)) in
     record {
-      answer = days-whole t (c .args .days .now) (c .loop-place .read) (c .told-days) (kept .1) (λ k. kept .2 k (omega arith));
+      answer = told;
+      original = original-told t days (Ok read) told;
       bound = λ k l. kept .2 k (omega arith) l .small;
       keeps = kept .0;
     }

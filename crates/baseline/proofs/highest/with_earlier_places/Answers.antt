@@ -5,10 +5,10 @@ use lib.ListN.{take, getD}
 use Rattle.tariff.specs.Highest.{total-at, ranked-in, three-highest, Highest}
 use Rattle.tariff.proofs.Choice.{three-highest-are-highest}
 use Rattle.baseline.proofs.Tops.{top-from, top-last, top-more, top-all, top-within}
-use Rattle.baseline.proofs.highest.three_highest.Needs as need
+use Rattle.baseline.proofs.highest.with_earlier_places.Needs as need
 
 pub loop-place-holds : need.loop-place-holds
-loop-place-holds c = c .last-three-top .ensures ∙ top-last (total-at (c .args .totals .now))
+loop-place-holds c = c .pre ∙ top-last (total-at (c .args .totals .now))
 
 pub with-place-next-requires : need.with-place-next-requires
 with-place-next-requires c κs =
