@@ -1,7 +1,6 @@
 -- The numbers of what recording and meters refuse.
 use Prim.Native.Nat.{ℕ}
-use Rattle.tariff.specs.declared.reading.Gap.{Gap}
-use Rattle.tariff.specs.declared.reading.Gap.the-variants.{Missing, Over}
+use Rattle.tariff.specs.Gaps.{gap-number}
 use Rattle.meter.specs.declared.refusal.RecordRefusal.{RecordRefusal}
 use Rattle.meter.specs.declared.refusal.RecordRefusal.the-variants.{NoSuchCell, LoadAboveLimit, CellTaken}
 use Rattle.meter.specs.declared.refusal.MeterFault.{MeterFault}
@@ -13,10 +12,6 @@ record-number LoadAboveLimit = 23
 record-number CellTaken = 24
 
 -- a gap has the number that a statement which needs the hour is refused with
-abbrev pub gap-number : Gap → ℕ
-gap-number (Missing n) = 25
-gap-number Over = 26
-
 abbrev pub meter-number : MeterFault → ℕ
 meter-number NoSuchHour = 22
 meter-number (NoLoad g) = gap-number g

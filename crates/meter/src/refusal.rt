@@ -38,8 +38,7 @@ impl MeterFault {
     {
         match self {
             MeterFault::NoSuchHour => 22,
-            MeterFault::NoLoad(Gap::Missing(_)) => 25,
-            MeterFault::NoLoad(Gap::Over) => 26,
+            MeterFault::NoLoad(gap) => gap.number(),
         }
     }
 }

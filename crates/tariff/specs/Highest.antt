@@ -3,7 +3,7 @@ use mathlib.Core.Path.{_≡_}
 use mathlib.Core.Bool.{cond}
 use mathlib.Core.List.{List, [], _∷_}
 use mathlib.Core.Logic.{_⊎_}
-use Prim.Native.Nat.{ℕ, _<_}
+use Prim.Native.Nat.{ℕ, _<_, _≤_}
 use lib.Dec.{leb}
 use lib.ListN.{length, getD, take}
 use Rattle.std.specs.Iters.{counting}
@@ -40,3 +40,7 @@ pub record Highest (totals places : List ℕ) : Type 0 where
   pub in-order : (j k : ℕ) → j < k → k < 3 → Goes-before totals (getD places j 0) (getD places k 0)
   -- a place that is none of them has a lower total than each of them, or an equal total and an earlier day
   pub above-others : (p : ℕ) → p < length totals → ((j : ℕ) → j < 3 → getD places j 0 ≡ p → ⊥) → (k : ℕ) → k < 3 → Goes-before totals (getD places k 0) p
+
+-- Of three totals and more, the places chosen are the three highest.
+abbrev pub The-three-highest-are-highest : Type 0
+The-three-highest-are-highest = (totals : List ℕ) → 3 ≤ length totals → Highest totals (three-highest totals)

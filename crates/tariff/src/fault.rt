@@ -1,5 +1,6 @@
 ghost use mathlib.Core.Path.{_≡_};
-ghost use Rattle.tariff.specs.Uses.{«use-number»};
+ghost use Rattle.tariff.specs.Gaps.{baseline-fault-number};
+ghost use Rattle.tariff.specs.Uses.{use-number};
 ghost use Rattle.tariff.specs.declared.fault.BaselineFault.the-variants.{HourWithoutLoad};
 use crate::reading::Gap;
 use crate::reading::GapDebug;
@@ -42,6 +43,17 @@ pub enum BaselineFault {
         day: u8,
         hour: u8,
     },
+}
+
+impl BaselineFault {
+    // The number of the hour's gap.
+    pub fn number(self) -> u32
+        ensures { λ r. ⌜ r ≡ baseline-fault-number self ⌝ }
+    {
+        match self {
+            BaselineFault::HourWithoutLoad { gap, .. } => gap.number(),
+        }
+    }
 }
 
 pub impl From<HourGap> for BaselineFault as BaselineFaultFromHourGap {
