@@ -24,3 +24,9 @@ pub mod HoursOfEvents
 pub mod RecordFilled
 pub mod RecordHours
 pub mod RecordSums
+pub mod HistoryTotals
+pub mod HistoryCalls
+pub mod HistoryDays
+pub mod HistorySites
+pub mod HistoryThird
+pub mod HistoryRemembered

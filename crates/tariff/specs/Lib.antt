@@ -24,3 +24,5 @@ pub mod Adjustment
 pub mod Examples
 pub mod EveryHour
 pub mod AddsUp
+pub mod History
+pub mod Remembers

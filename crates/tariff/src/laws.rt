@@ -5,6 +5,7 @@ ghost use Rattle.tariff.specs.EveryHour.{Every-event-hour-once};
 ghost use Rattle.tariff.specs.Examples.{Worked-examples};
 ghost use Rattle.tariff.specs.Highest.{The-three-highest-are-highest};
 ghost use Rattle.tariff.specs.Laws.{Deeper-cut-never-costs, Deeper-cuts-reduce-no-less, Events-stand-apart, Only-the-summer-counts, Reducing-no-less-never-costs, Sites-stand-apart};
+ghost use Rattle.tariff.specs.Remembers.{The-season-remembers};
 ghost use Rattle.tariff.specs.Sound.{After-any-calls, Of-sound-seasons, Seasons-are-sound};
 ghost use Rattle.tariff.specs.TenDays.{Comparison-days-are-latest, Ten-comparison-days};
 
@@ -73,6 +74,11 @@ pub fn every_event_hour_has_one_line()
 pub fn the_statement_adds_up()
     ensures sound { λ _. ⌜ Of-sound-seasons The-statement-adds-up ⌝ }
     ensures called { λ _. ⌜ After-any-calls The-statement-adds-up ⌝ }
+{}
+
+// The season remembers what was taken, as its calls and their answers tell it.
+pub fn the_season_remembers_what_was_taken()
+    ensures { λ _. ⌜ The-season-remembers ⌝ }
 {}
 
 // The worked examples come out as stated.
