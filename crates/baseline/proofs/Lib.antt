@@ -5,3 +5,5 @@ pub mod FirstSome
 pub mod DayReads
 pub mod TenDays
 pub mod Shown
+pub mod Measures
+pub mod SeasonEvents

@@ -1,3 +1,5 @@
 pub mod Days
 pub mod Sums
 pub mod Original
+pub mod Measuring
+pub mod SeasonEvents

@@ -1,0 +1,4 @@
+pub mod Hours
+pub mod Tables
+pub mod Tests
+pub mod View
