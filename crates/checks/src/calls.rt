@@ -1,6 +1,7 @@
 // Each refusal of a call at its edge.
 use crate::seasons::all_refused;
 use crate::seasons::announce;
+use crate::seasons::at;
 use crate::seasons::case;
 use crate::seasons::enrol;
 use crate::seasons::nominate;
@@ -8,10 +9,14 @@ use crate::seasons::noon;
 use crate::seasons::opened;
 use crate::seasons::revoke;
 use crate::seasons::taken;
+use season::ListRefusal;
+use season::ListRefusalDebug;
+use season::ListRefusalPartialEq;
 use season::Season;
 use season::SeasonPartialEq;
 use std::test::*;
 use tariff::call::Answer;
+use tariff::call::AnswerPartialEq;
 use tariff::call::Call;
 use tariff::call::SeasonRefusal;
 use tariff::call::SeasonRefusalPartialEq;
@@ -112,12 +117,12 @@ fn announcements_keep_their_bounds() -> Result<(), Fail> {
         case(announce(noon(14), 17, 4), SeasonRefusal::HoursOutside, 15),
         case(announce(noon(14), 16, 4), SeasonRefusal::NoticeOutside, 16),
         case(
-            announce(noon(14) - 61, 14, 4),
+            announce(at(14, 659), 14, 4),
             SeasonRefusal::NoticeOutside,
             16,
         ),
         case(
-            announce(noon(14) + 61, 14, 4),
+            announce(at(14, 781), 14, 4),
             SeasonRefusal::NoticeOutside,
             16,
         ),
@@ -125,12 +130,12 @@ fn announcements_keep_their_bounds() -> Result<(), Fail> {
     all_refused(&mut season, &cases)?;
     taken(
         &mut season,
-        announce(noon(14) - 60, 14, 2),
+        announce(at(14, 660), 14, 2),
         Answer::Announced(1),
     )?;
     taken(
         &mut season,
-        announce(noon(15) + 60, 14, 4),
+        announce(at(15, 780), 14, 4),
         Answer::Announced(2),
     )
 }
@@ -142,21 +147,44 @@ fn revocations_keep_their_bounds() -> Result<(), Fail> {
     taken(&mut season, announce(noon(14), 14, 4), Answer::Announced(1))?;
     let cases = [
         case(announce(noon(14), 14, 2), SeasonRefusal::DayAnnounced, 17),
-        case(revoke(noon(14) - 1), SeasonRefusal::MomentBeforeClock, 5),
+        case(revoke(at(14, 719)), SeasonRefusal::MomentBeforeClock, 5),
         case(enrol(0, 0, 60), SeasonRefusal::MomentBeforeClock, 5),
-        case(revoke(noon(14) + 91), SeasonRefusal::RevocationTooLate, 21),
+        case(revoke(at(14, 811)), SeasonRefusal::RevocationTooLate, 21),
         case(revoke(noon(15)), SeasonRefusal::NoEventStands, 20),
     ];
     all_refused(&mut season, &cases)?;
-    taken(&mut season, revoke(noon(14) + 90), Answer::Revoked(4))?;
+    taken(&mut season, revoke(at(14, 810)), Answer::Revoked(4))?;
     let later = [
-        case(revoke(noon(14) + 90), SeasonRefusal::NoEventStands, 20),
+        case(revoke(at(14, 810)), SeasonRefusal::NoEventStands, 20),
         case(
-            announce(noon(14) + 90, 16, 2),
+            announce(at(14, 810), 16, 2),
             SeasonRefusal::DayAnnounced,
             17,
         ),
     ];
     all_refused(&mut season, &later)?;
     taken(&mut season, Call::Close, Answer::Closed(0, 0))
+}
+
+// A list of calls is run on a newly opened season, refused ones included; a refused year leaves the record.
+#[test]
+fn a_list_of_calls_is_run(rt: LibcRuntime) -> Result<(), Fail> {
+    let calls = [
+        enrol(0, 0, 60),
+        announce(noon(19), 14, 4),
+        announce(noon(21), 14, 4),
+        Call::Close,
+        Call::Close,
+    ];
+    let mut season = Season::new();
+    check(
+        season.run(rt.alloc(), 2014, &calls)
+            == Err(ListRefusal::NotOpened(SeasonRefusal::YearOutside)),
+    )?;
+    check(season == Season::new())?;
+    let answers = season.run(rt.alloc(), 2015, &calls)?;
+    check(answers.len() == 5)?;
+    check(answers[0] == Ok(Answer::Site(1)) && answers[1] == Err(SeasonRefusal::NoBusinessDay))?;
+    check(answers[2] == Ok(Answer::Announced(1)) && answers[3] == Ok(Answer::Closed(1, 4)))?;
+    check(answers[4] == Err(SeasonRefusal::SeasonClosed))
 }

@@ -1,5 +1,6 @@
 // The limits of a season: 64 sites, 15 hours a week, 60 hours in all, and no figure above the highest after the third announcement.
 use crate::seasons::announce;
+use crate::seasons::at;
 use crate::seasons::case;
 use crate::seasons::enrol;
 use crate::seasons::nominate;
@@ -39,7 +40,7 @@ fn a_week_has_15_hours() -> Result<(), Fail> {
         &mut season,
         case(announce(noon(18), 14, 2), SeasonRefusal::WeekFull, 18),
     )?;
-    taken(&mut season, revoke(noon(17) + 1), Answer::Revoked(3))?;
+    taken(&mut season, revoke(at(17, 721)), Answer::Revoked(3))?;
     taken(&mut season, announce(noon(18), 14, 3), Answer::Announced(5))?;
     taken(&mut season, Call::Close, Answer::Closed(4, 15))
 }
@@ -78,7 +79,7 @@ fn no_figure_rises_above_the_highest_after_the_third_announcement() -> Result<()
     taken(&mut season, enrol(0, 0, 60), Answer::Site(1))?;
     taken(&mut season, nominate(0, 1, 3, 70), Answer::Week(3))?;
     taken(&mut season, announce(noon(14), 14, 2), Answer::Announced(1))?;
-    taken(&mut season, revoke(noon(14) + 1), Answer::Revoked(2))?;
+    taken(&mut season, revoke(at(14, 721)), Answer::Revoked(2))?;
     taken(&mut season, announce(noon(15), 14, 2), Answer::Announced(2))?;
     taken(&mut season, nominate(noon(15), 1, 9, 80), Answer::Week(9))?;
     taken(&mut season, announce(noon(16), 14, 2), Answer::Announced(3))?;

@@ -10,15 +10,19 @@ use tariff::call::SeasonRefusalPartialEq;
 
 // A call that a test expects to be refused, with the refusal and its number.
 #[derive(Clone, Copy)]
-pub(crate) struct Refused {
+pub(crate) struct Expected {
     pub(crate) call: Call,
     pub(crate) refusal: SeasonRefusal,
     pub(crate) number: u32,
 }
 
-// Noon of a day of the summer.
+// A minute of a day of the summer.
+pub(crate) fn at(day: u32, minute: u32) -> u32 {
+    day.saturating_mul(1440).saturating_add(minute)
+}
+
 pub(crate) fn noon(day: u32) -> u32 {
-    day.saturating_mul(1440).saturating_add(720)
+    at(day, 720)
 }
 
 pub(crate) fn enrol(moment: u32, kind: u32, kw: u32) -> Call {
@@ -59,22 +63,22 @@ pub(crate) fn taken(season: &mut Season, call: Call, answer: Answer) -> Result<(
 }
 
 // The call is refused, with this number, and leaves the whole record.
-pub(crate) fn refused(season: &mut Season, case: Refused) -> Result<(), Fail> {
+pub(crate) fn refused(season: &mut Season, case: Expected) -> Result<(), Fail> {
     let before = *season;
     check(season.call(case.call) == Err(case.refusal))?;
     check(case.refusal.number() == case.number)?;
     check(*season == before)
 }
 
-pub(crate) fn all_refused(season: &mut Season, cases: &[Refused]) -> Result<(), Fail> {
+pub(crate) fn all_refused(season: &mut Season, cases: &[Expected]) -> Result<(), Fail> {
     for case in cases {
         refused(season, *case)?;
     }
     Ok(())
 }
 
-pub(crate) fn case(call: Call, refusal: SeasonRefusal, number: u32) -> Refused {
-    Refused {
+pub(crate) fn case(call: Call, refusal: SeasonRefusal, number: u32) -> Expected {
+    Expected {
         call,
         refusal,
         number,

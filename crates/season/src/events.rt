@@ -11,7 +11,7 @@ use tariff::season::Day;
 use tariff::season::DayPartialEq;
 
 // An event has two to four hours between 14:00 and 20:00.
-pub fn is_hours_outside(start: u32, length: u32) -> bool
+pub(crate) fn is_hours_outside(start: u32, length: u32) -> bool
     ensures is { λ r. ⌜ r ≡ hours-outside start length ⌝ }
     ensures tells { λ r. ⌜ (r ≡ false → (14 ≤ start) × (start + length ≤ 20) × (length ≤ 4)) ⌝ }
 {
@@ -19,7 +19,7 @@ pub fn is_hours_outside(start: u32, length: u32) -> bool
 }
 
 // It is announced from 180 to 60 minutes before its start.
-pub fn is_notice_outside(moment: u32, start: u32) -> bool
+pub(crate) fn is_notice_outside(moment: u32, start: u32) -> bool
     requires { ⌜ start ≤ 20 ⌝ }
     ensures { λ r. ⌜ r ≡ notice-outside moment start ⌝ }
 {
@@ -28,7 +28,7 @@ pub fn is_notice_outside(moment: u32, start: u32) -> bool
 }
 
 // An event was announced for the day, and may have been revoked since.
-pub fn is_announced(day: Day) -> bool
+pub(crate) fn is_announced(day: Day) -> bool
     ensures { λ r. ⌜ r ≡ spec.announced day ⌝ }
 {
     match day {
@@ -38,7 +38,7 @@ pub fn is_announced(day: Day) -> bool
 }
 
 // An event stands on the day.
-pub fn stands(day: Day) -> bool
+pub(crate) fn stands(day: Day) -> bool
     ensures { λ r. ⌜ r ≡ spec.stands day ⌝ }
 {
     match day {
@@ -65,7 +65,7 @@ pub struct EventTable {
 
 impl EventTable {
     // A summer without events.
-    pub fn new() -> EventTable
+    pub(crate) fn new() -> EventTable
         ensures { λ r. ⌜ r .days ≡ replicate 76 NoEvent ⌝ }
     {
         EventTable {
@@ -74,7 +74,7 @@ impl EventTable {
     }
 
     // What a day holds; past the summer there is no event.
-    pub fn at(&self, day: u32) -> Day
+    pub(crate) fn at(&self, day: u32) -> Day
         ensures { λ r. ⌜ r ≡ spec.day-in (now (self .entry) .days) day ⌝ }
     {
         match self.days.get(day as usize) {
@@ -83,7 +83,7 @@ impl EventTable {
         }
     }
 
-    pub fn put(&mut self, day: u32, held: Day)
+    pub(crate) fn put(&mut self, day: u32, held: Day)
         requires { ⌜ day ≤ 75 ⌝ }
         ensures { λ _. ⌜ now (self .exit) .days ≡ set (now (self .entry) .days) day held ⌝ }
     {
@@ -91,7 +91,7 @@ impl EventTable {
     }
 
     // How many announcements have been accepted.
-    pub fn announcements(&self) -> u32
+    pub(crate) fn announcements(&self) -> u32
         ensures is { λ r. ⌜ r ≡ spec.announced-before (now (self .entry) .days) 76 ⌝ }
         ensures within { λ r. ⌜ r ≤ 76 ⌝ }
     {
@@ -105,7 +105,7 @@ impl EventTable {
     }
 
     // How many events stand.
-    pub fn standing_events(&self) -> u32
+    pub(crate) fn standing_events(&self) -> u32
         ensures is { λ r. ⌜ r ≡ spec.standing-before (now (self .entry) .days) 76 ⌝ }
         ensures within { λ r. ⌜ r ≤ 76 ⌝ }
     {
@@ -119,7 +119,7 @@ impl EventTable {
     }
 
     // How many hours they have.
-    pub fn standing_hours(&self) -> u32
+    pub(crate) fn standing_hours(&self) -> u32
         ensures is { λ r. ⌜ r ≡ spec.hours-before (now (self .entry) .days) 76 ⌝ }
         ensures within { λ r. ⌜ r ≤ 19380 ⌝ }
     {
@@ -131,7 +131,7 @@ impl EventTable {
     }
 
     // How many of these lie in a week.
-    pub fn hours_of_week(&self, year: u32, week: u32) -> u32
+    pub(crate) fn hours_of_week(&self, year: u32, week: u32) -> u32
         ensures is { λ r. ⌜ r ≡ spec.week-hours-before year week (now (self .entry) .days) 76 ⌝ }
         ensures within { λ r. ⌜ r ≤ 19380 ⌝ }
     {

@@ -12,7 +12,7 @@ use tariff::season::Site;
 use tariff::season::SitePartialEq;
 
 // The kind that a number stands for: 0 is a single site, and any other number an aggregated one.
-pub fn kind_of(number: u32) -> Kind
+pub(crate) fn kind_of(number: u32) -> Kind
     ensures { λ r. ⌜ r ≡ kinds.kind-of number ⌝ }
 {
     if number == 0 {
@@ -33,7 +33,7 @@ fn least_kw(kind: Kind) -> u32
 }
 
 // A figure that a site of a kind may not name, in kW.
-pub fn is_figure_outside(kind: Kind, kw: u32) -> bool
+pub(crate) fn is_figure_outside(kind: Kind, kw: u32) -> bool
     ensures { λ r. ⌜ r ≡ figure-outside kind kw ⌝ }
 {
     kw < least_kw(kind) || kw > 100_000
@@ -65,7 +65,7 @@ pub struct SiteTable {
 
 impl SiteTable {
     // A table with no site.
-    pub fn new() -> SiteTable
+    pub(crate) fn new() -> SiteTable
         ensures none { λ r. ⌜ r .count ≡ 0 ⌝ }
         ensures blank { λ r. ⌜ Blank r ⌝ }
         ensures cells { λ r. ⌜ length (r .sites) ≡ 64 ⌝ }
@@ -82,7 +82,7 @@ impl SiteTable {
     }
 
     // How many sites are enrolled.
-    pub fn len(&self) -> u32
+    pub(crate) fn len(&self) -> u32
         requires { ⌜ now self .count ≤ 64 ⌝ }
         ensures is { λ r. ⌜ r ≡ length (listed (now (self .entry))) ⌝ }
         ensures counted { λ r. ⌜ r ≡ now (self .entry) .count ⌝ }
@@ -100,7 +100,7 @@ impl SiteTable {
     }
 
     // The site of a number, counted from 1.
-    pub fn at(&self, number: u32) -> Site
+    pub(crate) fn at(&self, number: u32) -> Site
         requires { ⌜ now self .count ≤ 64 ⌝ ∗ ⌜ 1 ≤ number ⌝ ∗ ⌜ number ≤ now self .count ⌝ }
         ensures { λ r. ⌜ r ≡ getD (listed (now (self .entry))) (number - 1) no-site ⌝ }
     {
@@ -108,7 +108,7 @@ impl SiteTable {
     }
 
     // One site more, with one figure for all weeks.
-    pub fn enrol(&mut self, kind: Kind, kw: u32)
+    pub(crate) fn enrol(&mut self, kind: Kind, kw: u32)
         requires room { ⌜ now self .count < 64 ⌝ }
         requires blank { ⌜ Blank (now self) ⌝ }
         ensures list { λ _. ⌜ listed (now (self .exit)) ≡ listed (now (self .entry)) ++ (enrolled-site kind kw ∷ []) ⌝ }
@@ -125,7 +125,7 @@ impl SiteTable {
     }
 
     // A figure of one site, for a week and all later weeks; sites and weeks are counted from 1.
-    pub fn nominate(&mut self, number: u32, week: u32, kw: u32)
+    pub(crate) fn nominate(&mut self, number: u32, week: u32, kw: u32)
         requires site { ⌜ now self .count ≤ 64 ⌝ ∗ ⌜ 1 ≤ number ⌝ ∗ ⌜ number ≤ now self .count ⌝ }
         requires week { ⌜ 1 ≤ week ⌝ ∗ ⌜ week ≤ 10 ⌝ }
         requires blank { ⌜ Blank (now self) ⌝ }

@@ -1,8 +1,9 @@
+ghost use mathlib.Core.Bool.{cond};
 ghost use mathlib.Core.Path.{_≡_};
 ghost use Prim.Native.Nat.{_+_, _≤_};
 ghost use lib.ListN.{length};
 ghost use Rattle.std.specs.shelf.Lists.{All};
-ghost use Rattle.tariff.specs.Events.{day-hours, event-number};
+ghost use Rattle.tariff.specs.Events.{day-hours, event-number, stands};
 ghost use Rattle.tariff.specs.Season.{day-at};
 ghost use Rattle.pay.specs.Listed.{listed};
 ghost use Rattle.season.specs.View.{view};
@@ -17,6 +18,18 @@ use tariff::season::Site;
 use tariff::statement::EventFault;
 use tariff::statement::StatementRefusal;
 use tariff::statement::StatementRefusalFromEventFault;
+
+// The number of the next event: one more where an event stands, and the same where none was announced or it was revoked.
+fn next_number(number: u8, held: Day) -> u8
+    requires { ⌜ number ≤ 76 ⌝ }
+    ensures { λ r. ⌜ r ≡ number + cond (stands held) 1 0 ⌝ }
+{
+    match held {
+        Day::Standing(_) => number + 1,
+        Day::NoEvent => number,
+        Day::Revoked(_) => number,
+    }
+}
 
 // Measures the event of a day, where one stands, and adds its hours to the list. Answers the number of the next event.
 fn measure_day<M: Meter>(
@@ -35,14 +48,16 @@ fn measure_day<M: Meter>(
     ensures told { λ r. ⌜ Day-told (view (now (season .entry))) (now (site .entry)) (table (now (meter .entry))) day (now (list .entry)) (now (list .exit)) r ⌝ }
     ensures keeps { λ _. ⌜ table (now (meter .exit)) ≡ table (now (meter .entry)) ⌝ }
 {
-    match season.day(u32::from(day)) {
+    let held = season.day(u32::from(day));
+    let next = next_number(number, held);
+    match held {
         Day::Standing(event) => {
             let measured = measure_standing(season, site, meter, day, event, number)?;
             push_event(list, season.year(), &measured);
-            Ok(number + 1)
+            Ok(next)
         }
-        Day::NoEvent => Ok(number),
-        Day::Revoked(_) => Ok(number),
+        Day::NoEvent => Ok(next),
+        Day::Revoked(_) => Ok(next),
     }
 }
 
