@@ -6,4 +6,3 @@ pub mod DayReads
 pub mod TenDays
 pub mod Shown
 pub mod Measures
-pub mod SeasonEvents

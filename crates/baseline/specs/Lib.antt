@@ -2,4 +2,3 @@ pub mod Days
 pub mod Sums
 pub mod Original
 pub mod Measuring
-pub mod SeasonEvents

@@ -5,7 +5,6 @@ pub mod bases;
 pub mod days;
 pub mod event;
 pub mod highest;
-pub mod laws;
 pub mod loads;
 pub mod measured;
 pub mod original;
