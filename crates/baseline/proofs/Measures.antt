@@ -1,14 +1,14 @@
 -- Events measured from the loads that were read are measured as the tariff says.
 use mathlib.Core.Path.{_≡_, refl, sym, ap, ap₂, _∙_}
-use mathlib.Core.List.{List, [], _∷_, _++_, map, append-assoc}
+use mathlib.Core.List.{List, [], _∷_, _++_, map}
 use Prim.Native.Nat.{ℕ, suc, _+_, _-_, _<_, _≤_}
 use native.Mathlib.Omega.{arith}
-use lib.ListN.{length, getD, set, take, replicate, length-append, length-map}
+use lib.ListN.{length, getD, set, take, replicate, length-map}
 use Rattle.std.specs.Iters.{counting}
 use Rattle.std.specs.shelf.Lists.{All}
 use Rattle.std.proofs.shelf.Counted.{length-counting, getD-counting, length-map-counting, map-counting-more}
 use Rattle.std.proofs.shelf.Elements.{all-getD}
-use Rattle.std.proofs.shelf.Lists.{getD-map, set-at, take-at}
+use Rattle.std.proofs.shelf.Lists.{getD-map, take-at}
 use Rattle.std.specs.declared.option.Option.the-variants.{Some, None}
 use Rattle.std.specs.declared.result.Result.{Result}
 use Rattle.std.specs.declared.result.Result.the-variants.{Ok, Err}
@@ -21,6 +21,7 @@ use Rattle.tariff.specs.declared.fault.BaselineFault.{BaselineFault}
 use Rattle.tariff.specs.declared.fault.Use.the-variants.{EventDay}
 use Rattle.tariff.specs.declared.season.EventHour.{EventHour}
 use Rattle.tariff.specs.declared.statement.MeasuredHour.{MeasuredHour}
+use Rattle.tariff.proofs.Pointwise.{filled-more}
 use Rattle.tariff.proofs.Ranking.{all-counting}
 use Rattle.baseline.specs.declared.loads.EventLoads.{EventLoads}
 use Rattle.baseline.specs.declared.measured.MeasuredEvent.{MeasuredEvent}
@@ -107,13 +108,6 @@ module _ (t : Table) (days : List ℕ) (e : EventSpan) where
       ap (λ o. fault-or o (event-of-hours (map (measured-of t days (e .notice) nominated) (span-hours e)))) (sym (fault-some (fault-over t days (e .day)) (loads-of t days (e .day)) f q))
 
 -- ---- an event's hours, one by one
-
-pub filled-more : {A : Type 0} (z : A) (n i : ℕ) (xs : List A) (y : A) → length xs ≡ i → i < n → set (filled z n xs) i y ≡ filled z n (xs ++ y ∷ [])
-filled-more z n i xs y e h =
-    let m : ℕ = n - length xs - 1 in
-    let one : n - length xs ≡ suc m = omega arith in
-    let less : n - length (xs ++ y ∷ []) ≡ m = omega (arith, length-append xs (y ∷ [])) in
-    ap (λ k. set (xs ++ replicate k z) i y) one ∙ set-at xs z (replicate m z) y i e ∙ sym (append-assoc xs (y ∷ []) (replicate m z)) ∙ ap (λ k. (xs ++ y ∷ []) ++ replicate k z) (sym less)
 
 -- bounds of one hour
 abbrev pub Fair : MeasuredHour → Type 0

@@ -19,6 +19,7 @@ use Rattle.tariff.specs.Highest.{total-at, ranked, three-highest}
 use Rattle.tariff.specs.Faults.{comparison-fault}
 use Rattle.tariff.specs.declared.fault.BaselineFault.{BaselineFault}
 use Rattle.tariff.specs.Baseline.{afternoon, highest-of, base-of}
+use Rattle.tariff.proofs.Pointwise.{map-same}
 use Rattle.tariff.proofs.Ranking.{all-counting, all-ranked}
 use Rattle.baseline.specs.Days.{day-loads, days-read, fault-or}
 use Rattle.baseline.specs.Original.{original-of, original-read, original-from, Original-of-loads}
@@ -49,10 +50,6 @@ module _ (t : Table) where
   sum-shown days h l [] w = refl
   sum-shown days h l (p ∷ places) w =
       sumBy-cons (load-at (map (day-loads t) days) h) p places ∙ ap₂ _+_ (load-shown days h p l (w .0)) (sum-shown days h l places (w .1)) ∙ sym (sumBy-cons (λ d. load t d h) (getD days p 0) (map (λ q. getD days q 0) places))
-
-  map-same : {X : Type 0} (f g : ℕ → X) (xs : List ℕ) → All (λ x. f x ≡ g x) xs → map f xs ≡ map g xs
-  map-same f g [] h = refl
-  map-same f g (x ∷ xs) h = ap₂ _∷_ (h .0) (map-same f g xs (h .1))
 
   -- the places of the three highest are places of days
   places-within : (days : List ℕ) → All (λ p. p < length days) (three-highest (map (afternoon t) days))

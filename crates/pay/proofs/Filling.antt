@@ -1,24 +1,18 @@
 -- Lines that are filled in one by one.
 use mathlib.Core.Path.{_≡_, refl, sym, ap, _∙_}
-use mathlib.Core.List.{List, [], _∷_, _++_, map, append-assoc}
-use Prim.Native.Nat.{ℕ, suc, _+_, _-_, _<_, _≤_}
+use mathlib.Core.List.{List, [], _∷_, _++_, map}
+use Prim.Native.Nat.{ℕ, _+_, _-_, _<_, _≤_}
 use native.Mathlib.Omega.{arith}
-use lib.ListN.{length, getD, set, take, replicate, length-append, length-map}
+use lib.ListN.{length, getD, set, take, replicate, length-map}
 use Rattle.std.specs.Iters.{counting}
 use Rattle.std.proofs.shelf.Counted.{length-map-counting, map-counting-more}
-use Rattle.std.proofs.shelf.Lists.{set-at, map-more, take-all, length-take-le}
+use Rattle.std.proofs.shelf.Lists.{map-more, take-all, length-take-le}
 use Rattle.tariff.specs.Pay.{filled, priced, no-hour, no-week}
+use Rattle.tariff.proofs.Pointwise.{filled-more}
 use Rattle.tariff.specs.declared.statement.HourLine.{HourLine}
 use Rattle.tariff.specs.declared.statement.WeekLine.{WeekLine}
 use Rattle.pay.specs.declared.placed.PlacedHour.{PlacedHour}
 use Rattle.pay.specs.Paying.{measured-list, hour-lines-of, week-line-in, week-lines-of}
-
-filled-more : {A : Type 0} (z : A) (n i : ℕ) (xs : List A) (y : A) → length xs ≡ i → i < n → set (filled z n xs) i y ≡ filled z n (xs ++ y ∷ [])
-filled-more z n i xs y e h =
-    let m : ℕ = n - length xs - 1 in
-    let one : n - length xs ≡ suc m = omega arith in
-    let less : n - length (xs ++ y ∷ []) ≡ m = omega (arith, length-append xs (y ∷ [])) in
-    ap (λ k. set (xs ++ replicate k z) i y) one ∙ set-at xs z (replicate m z) y i e ∙ sym (append-assoc xs (y ∷ []) (replicate m z)) ∙ ap (λ k. (xs ++ y ∷ []) ++ replicate k z) (sym less)
 
 -- ---- hour lines
 

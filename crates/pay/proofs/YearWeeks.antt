@@ -14,13 +14,10 @@ use Rattle.tariff.specs.Season.{nomination-for}
 use Rattle.tariff.specs.declared.season.Site.{Site}
 use Rattle.tariff.specs.declared.statement.MeasuredHour.{MeasuredHour}
 use Rattle.tariff.specs.declared.statement.WeekLine.{WeekLine}
+use Rattle.tariff.proofs.Pointwise.{map-same}
 use Rattle.tariff.proofs.Ranking.{all-counting}
 use Rattle.pay.specs.declared.placed.PlacedHour.{PlacedHour}
 use Rattle.pay.specs.Paying.{measured-list, measured-in-week, hour-lines-of, week-line-in, week-lines-of, statement-from, Of-year, Paid-as-the-tariff-says}
-
-map-same : {X : Type 0} (f g : ℕ → X) (xs : List ℕ) → All (λ x. f x ≡ g x) xs → map f xs ≡ map g xs
-map-same f g [] h = refl
-map-same f g (x ∷ xs) h = ap₂ _∷_ (h .0) (map-same f g xs (h .1))
 
 kept-one : (p : PlacedHour) (ks : List PlacedHour) (ms : List MeasuredHour) → measured-list ks ≡ ms → (b : Bool) → measured-list (cond b (p ∷ ks) ks) ≡ cond b (p .measured ∷ ms) ms
 kept-one p ks ms e true = ap (λ ns. p .measured ∷ ns) e

@@ -9,7 +9,6 @@ use Rattle.std.specs.Iters.{counting}
 use Rattle.std.specs.shelf.Lists.{All}
 use Rattle.std.proofs.shelf.Counted.{length-counting}
 use Rattle.std.proofs.shelf.Elements.{all-append, all-weaker}
-use Rattle.std.proofs.shelf.Lists.{take-at}
 use Rattle.std.proofs.shelf.Tests.{cond-true, cond-false}
 use Rattle.std.specs.declared.option.Option.{Option}
 use Rattle.std.specs.declared.option.Option.the-variants.{Some, None}
@@ -30,6 +29,7 @@ use Rattle.tariff.specs.declared.statement.EventFault.{EventFault}
 use Rattle.tariff.specs.declared.statement.MeasuredHour.{MeasuredHour}
 use Rattle.tariff.specs.declared.statement.StatementRefusal.{StatementRefusal}
 use Rattle.tariff.specs.declared.statement.StatementRefusal.the-variants.{EventWithoutBaseline}
+use Rattle.baseline.proofs.Measures.{hours-back}
 use Rattle.baseline.specs.Days.{fault-or}
 use Rattle.baseline.specs.Measuring.{event-of-hours, no-measured}
 use Rattle.baseline.specs.declared.measured.MeasuredEvent.{MeasuredEvent}
@@ -121,7 +121,7 @@ module _ (s : Season) (x : Site) (t : Table) (d : ℕ) (e : Event) (number : ℕ
   standing-day m before after p low counts hours weeks =
       let whole = measured-whole m p in
       let hs : List MeasuredHour = map (measured s x t) (hours-on number d (Standing e)) in
-      let taken : take (m .count) (m .hours) ≡ hs = ap (λ v. take (v .count) (v .hours)) (whole .1) ∙ take-at hs (replicate (4 - length hs) no-measured) (length hs) refl in
+      let taken : take (m .count) (m .hours) ≡ hs = ap (λ v. take (v .count) (v .hours)) (whole .1) ∙ hours-back hs in
       let same : hs ≡ map (measured s x t) (hours-on (event-number (s .days) d) d (day-at s d)) = ap₂ (λ n day. map (measured s x t) (hours-on n d day)) en (sym held) in
       record {
         answered = cond-true (standing s d) _ _ (ap stands held) ∙ ap (numbered (event-number (s .days) d)) (whole .0);

@@ -35,10 +35,10 @@ hours-measured : (s : Season) (x : Site) (t : Table) (number d : ℕ) (hs : List
 hours-measured s x t number d [] = refl
 hours-measured s x t number d (h ∷ hs) = ap (λ rest. measured s x t (event-hour number d h) ∷ rest) (hours-measured s x t number d hs)
 
-in-season : (s : Season) (x : Site) (t : Table) (number d : ℕ) (e : Event) →
+as-the-season-says : (s : Season) (x : Site) (t : Table) (number d : ℕ) (e : Event) →
     plain t (comparison-days s d) (nomination-on s x d) number d (notice-hour s d) (e .start) (e .length) ≡ fault-or (event-fault s t d) (event-of-hours (map (measured s x t) (hours-on number d (Standing e))))
 unfolding plain event-fault
-in-season s x t number d e =
+as-the-season-says s x t number d e =
     ap (λ hours. fault-or (fault-over t (comparison-days s d) d) (event-of-hours hours)) (hours-measured s x t number d (counting (e .start) (e .length)))
 
 pub span-measured : (s : Season) (x : Site) (t : Table) (number d : ℕ) (e : Event) (span : EventSpan) (days : List ℕ) (nominated : ℕ) →
@@ -54,6 +54,6 @@ pub span-measured : (s : Season) (x : Site) (t : Table) (number d : ℕ) (e : Ev
 span-measured s x t number d e span days nominated stands ed en e1 e2 e3 e4 e5 =
     let notice : notice-hour s d ≡ minute-of (e .notice) / 60 = ap (λ day. minute-of (event-of day .notice) / 60) stands in
     let first = by-span t days span nominated in
-    let last = in-season s x t number d e in
+    let last = as-the-season-says s x t number d e in
     let middle : plain t days nominated (span .number) (span .day) (span .notice) (span .start) (span .length) ≡ plain t (comparison-days s d) (nomination-on s x d) number d (notice-hour s d) (e .start) (e .length) = cc in
     first ∙ middle ∙ last

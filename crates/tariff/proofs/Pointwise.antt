@@ -1,13 +1,14 @@
 -- Lists alike place by place, and what functions that agree on a list's elements make of it.
 use mathlib.Core.Bool.{Bool}
-use mathlib.Core.Path.{_≡_, refl, sym, ap₂, _∙_}
-use mathlib.Core.List.{List, [], _∷_, _++_, map, reverse, reverseAux}
+use mathlib.Core.Path.{_≡_, refl, sym, ap, ap₂, _∙_}
+use mathlib.Core.List.{List, [], _∷_, _++_, map, reverse, reverseAux, append-assoc}
 use mathlib.Core.Logic.{inl, inr}
-use Prim.Native.Nat.{ℕ, zero, suc, _+_, _-_, _≤_}
+use Prim.Native.Nat.{ℕ, zero, suc, _+_, _-_, _≤_, _<_}
 use native.Mathlib.Omega.{arith}
-use lib.ListN.{length, getD, replicate}
+use lib.ListN.{length, getD, set, replicate, length-append}
 use Rattle.std.specs.shelf.Lists.{All, Each, sumBy, kept-by}
 use Rattle.std.proofs.shelf.Elements.{length-each}
+use Rattle.std.proofs.shelf.Lists.{set-at}
 use Rattle.std.proofs.shelf.Sums.{sumBy-cons}
 use Rattle.std.proofs.shelf.Tests.{cases-bool}
 use Rattle.std.specs.declared.option.Option.{Option}
@@ -97,3 +98,11 @@ each-mapped R S f over [] [] h = tt
 each-mapped R S f over [] (y ∷ ys) h = absurd h
 each-mapped R S f over (x ∷ xs) [] h = absurd h
 each-mapped R S f over (x ∷ xs) (y ∷ ys) h = (over x y (h .0), each-mapped R S f over xs ys (h .1))
+
+-- a filled list with one entry more that is used
+pub filled-more : {A : Type 0} (z : A) (n i : ℕ) (xs : List A) (y : A) → length xs ≡ i → i < n → set (filled z n xs) i y ≡ filled z n (xs ++ y ∷ [])
+filled-more z n i xs y e h =
+    let m : ℕ = n - length xs - 1 in
+    let one : n - length xs ≡ suc m = omega arith in
+    let less : n - length (xs ++ y ∷ []) ≡ m = omega (arith, length-append xs (y ∷ [])) in
+    ap (λ k. set (xs ++ replicate k z) i y) one ∙ set-at xs z (replicate m z) y i e ∙ sym (append-assoc xs (y ∷ []) (replicate m z)) ∙ ap (λ k. (xs ++ y ∷ []) ++ replicate k z) (sym less)
