@@ -1,5 +1,7 @@
 // The calendar of a summer, in code: day 0 is June 1, day 14 is June 15 and day 75 is August 15. Years, days and weeks may be
 // any numbers.
+#![tactic(auto)]
+
 ghost use Rattle.std.specs.Prelude.{◌≡◌, ◌<◌, ◌≤◌};
 ghost use Rattle.tariff.specs.Calendar as spec;
 

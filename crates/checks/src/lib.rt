@@ -1,4 +1,6 @@
 // Tests of the crates below, through what they make public: examples and the edges of the rules.
+#![tactic(auto)]
+
 #[cfg(test)]
 mod calls;
 #[cfg(test)]

@@ -1,4 +1,6 @@
 // Meters: what a site drew in each hour of the summer, and the tables that readings are recorded in.
+#![tactic(auto)]
+
 pub mod cells;
 pub mod hour;
 pub mod hourly;

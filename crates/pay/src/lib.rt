@@ -1,4 +1,6 @@
 // Paying: what the measured hours of a site pay and cost, week by week and in all.
+#![tactic(auto)]
+
 pub mod capacity;
 pub mod lines;
 pub mod list;

@@ -1,4 +1,6 @@
 // What a desk is shown of a settled batch: a report that people read, and rows for spreadsheets and other programs.
+#![tactic(auto)]
+
 mod calls;
 mod columns;
 mod dates;

@@ -1,4 +1,6 @@
 // Settles each of the sample batches, and shows it in both forms; and shows what is said of those that cannot be read.
+#![tactic(auto)]
+
 use desk::failure::{Failure, Stopped};
 use desk::program::{obey, text_for};
 

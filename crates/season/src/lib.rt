@@ -1,4 +1,6 @@
 // The record of a season: its sites, the events of its days, the calls that change them, and what others read of it.
+#![tactic(auto)]
+
 mod events;
 mod hours;
 mod season;

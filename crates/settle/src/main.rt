@@ -1,4 +1,6 @@
 // Settles a batch: one client's season, its calls, its meters' readings and the statements wanted.
+#![tactic(auto)]
+
 use desk::failure::Stopped;
 use desk::program::run_settle;
 

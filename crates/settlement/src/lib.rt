@@ -1,5 +1,7 @@
 // Settling a batch: meters chosen at run time, readings recorded in their tables, the tasks run over the proved calls, and the
 // counts that are read aloud.
+#![tactic(auto)]
+
 mod blank;
 pub mod choose;
 pub mod chosen;

@@ -1,5 +1,7 @@
 // Settles one site of a season with as many events of four hours as asked for, up to fifteen, and prints what it is paid: run under
 // an instruction counter, it tells what a statement costs and how that grows.
+#![tactic(auto)]
+
 use anyhow::anyhow;
 use meter::hourly::HourlyMeter;
 use season::Season;

@@ -1,4 +1,6 @@
 // Plain text: lines, words, numbers and stamps of the summer.
+#![tactic(auto)]
+
 pub mod cut;
 pub mod number;
 pub mod parts;
