@@ -16,8 +16,8 @@ use tariff::statement::MeasuredHour;
 
 // Reads the event's own day.
 fn read_own<M: Meter>(meter: &mut M, event: &EventSpan) -> Result<[u32; 24], BaselineFault>
-    ensures answer { result ≡ day_read (table meter.old) EventDay event.now.day }
-    ensures keeps { table meter.new ≡ table meter.old }
+    ensures answer { result ≡ day_read (M.table meter.old) EventDay event.now.day }
+    ensures keeps { M.table meter.new ≡ M.table meter.old }
 {
     read_day(meter, Use::EventDay, event.day)
 }
@@ -28,10 +28,10 @@ fn read_loads<M: Meter>(
     days: &ComparisonDays,
     event: &EventSpan,
 ) -> Result<EventLoads, BaselineFault>
-    ensures answer { result ≡ loads_read (table meter.old) days.now.days event.now.day }
-    ensures measured { MeasuredFromLoads (table meter.old) days.now.days event.now result }
+    ensures answer { result ≡ loads_read (M.table meter.old) days.now.days event.now.day }
+    ensures measured { MeasuredFromLoads (M.table meter.old) days.now.days event.now result }
     ensures small { IfOk result (λ x. SmallBases x.bases) }
-    ensures keeps { table meter.new ≡ table meter.old }
+    ensures keeps { M.table meter.new ≡ M.table meter.old }
 {
     let original = original_baseline(meter, days)?;
     let own = read_own(meter, event)?;
@@ -124,9 +124,9 @@ pub fn measure_event<M: Meter>(
     event: &EventSpan,
     nominated: u32,
 ) -> Result<MeasuredEvent, BaselineFault>
-    ensures answer { result ≡ event_measured (table meter.old) days.now.days event.now nominated }
+    ensures answer { result ≡ event_measured (M.table meter.old) days.now.days event.now nominated }
     ensures bounds { IfOk result Bounded }
-    ensures keeps { table meter.new ≡ table meter.old }
+    ensures keeps { M.table meter.new ≡ M.table meter.old }
 {
     let loads = read_loads(meter, days, event)?;
     Ok(measured_event(&loads, event, nominated))

@@ -25,9 +25,9 @@ pub fn original_baseline<M: Meter>(
     meter: &mut M,
     days: &ComparisonDays,
 ) -> Result<OriginalBaseline, BaselineFault>
-    ensures answer { result ≡ original_read (table meter.old) days.now.days }
+    ensures answer { result ≡ original_read (M.table meter.old) days.now.days }
     ensures bound { IfOk result (λ x. (h : ℕ) → h < 24 → slice_index x.bases h ≤ 300000000) }
-    ensures keeps { table meter.new ≡ table meter.old }
+    ensures keeps { M.table meter.new ≡ M.table meter.old }
 {
     let loads = read_days(meter, &days.days)?;
     let totals = totals::totals(&loads);

@@ -8,9 +8,9 @@ use tariff::fault::{BaselineFault, HourGap, Use};
 
 // One hour of a day, or its gap with what the hour is needed for.
 fn read_hour<M: Meter>(meter: &mut M, purpose: Use, at: SummerHour) -> Result<u32, HourGap>
-    ensures answer { result ≡ hour_read purpose at.day at.hour (table meter.old at.day at.hour) }
+    ensures answer { result ≡ hour_read purpose at.day at.hour (M.table meter.old at.day at.hour) }
     ensures bound { IfOk result (λ w. w ≤ 100000000) }
-    ensures keeps { table meter.new ≡ table meter.old }
+    ensures keeps { M.table meter.new ≡ M.table meter.old }
 {
     match meter.load(at) {
         Ok(load) => Ok(load),
@@ -30,9 +30,9 @@ pub(crate) fn read_day<M: Meter>(
     day: u8,
 ) -> Result<[u32; 24], BaselineFault>
     requires { day ≤ 75 }
-    ensures answer { result ≡ day_read (table meter.old) purpose day }
+    ensures answer { result ≡ day_read (M.table meter.old) purpose day }
     ensures bound { IfOk result Small }
-    ensures keeps { table meter.new ≡ table meter.old }
+    ensures keeps { M.table meter.new ≡ M.table meter.old }
 {
     let mut loads = [0; 24];
     for hour in 0..24u8 {
@@ -47,10 +47,10 @@ pub(crate) fn read_days<M: Meter>(
     days: &[u8; 10],
 ) -> Result<[[u32; 24]; 10], BaselineFault>
     requires { (k : ℕ) → k < 10 → slice_index days.now k ≤ 75 }
-    ensures answer { result ≡ days_read (table meter.old) days.now }
-    ensures original { OriginalOfLoads (table meter.old) days.now result }
+    ensures answer { result ≡ days_read (M.table meter.old) days.now }
+    ensures original { OriginalOfLoads (M.table meter.old) days.now result }
     ensures bound { IfOk result (λ read. (k : ℕ) → k < 10 → Small (slice_index_or read k [])) }
-    ensures keeps { table meter.new ≡ table meter.old }
+    ensures keeps { M.table meter.new ≡ M.table meter.old }
 {
     let mut read = [[0; 24]; 10];
     for place in (0..10).rev() {

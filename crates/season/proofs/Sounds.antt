@@ -102,15 +102,32 @@ sound_of s = record {
 pub still_sound : (s : Season) (c : Call) (a : Result Answer SeasonRefusal) (m : model.Season) → a ≡ answer (view s) c → m ≡ after (view s) c a → Sound m
 still_sound s c a m answered e = subst Sound (sym (e ∙ ap (after (view s) c) answered)) (next_sound (view s) c (sound_of s))
 
--- the facts of a record, in their order
+-- the facts of a record, by their names
 abbrev Facts : ℕ → SiteTable → EventTable → Type 0
-Facts year sites events =
-    (sites.count ≤ 64) × ((length sites.sites ≡ 64) × (Blank sites × (AllWhole (listed sites) × ((length events.days ≡ 76) × (AllFit year events.days × (WeeksHold year events.days × ((hours_before events.days 76 ≤ 60) × Unit {0})))))))
+Facts year sites events = record {
+  room : sites.count ≤ 64;
+  cells : length sites.sites ≡ 64;
+  blank : Blank sites;
+  whole : AllWhole (listed sites);
+  summer : length events.days ≡ 76;
+  fit : AllFit year events.days;
+  weekly : WeeksHold year events.days;
+  full : hours_before events.days 76 ≤ 60;
+}
 
 pub facts : (year clock : ℕ) (closed : Bool) (sites : SiteTable) (events : EventTable) → sites.count ≤ 64 → length sites.sites ≡ 64 → Blank sites → Sound (view_of year closed clock sites events) → Facts year sites events
 facts year clock closed sites events room cells blank a =
     let fit : AllFit year events.days = λ d h. fit_from year d (event_of (model.day_at (view_of year closed clock sites events) d)) (a.events d h) in
-    (room, (cells, (blank, (passes is_whole Whole whole_from (listed sites) a.whole, (a.summer, (fit, (a.weekly, (a.overall, tt))))))))
+    record {
+      room = room;
+      cells = cells;
+      blank = blank;
+      whole = passes is_whole Whole whole_from (listed sites) a.whole;
+      summer = a.summer;
+      fit = fit;
+      weekly = a.weekly;
+      full = a.overall;
+    }
 
 -- of a record with no sites and no events
 pub fresh_facts : (year : ℕ) (sites : SiteTable) (events : EventTable) → sites.count ≡ 0 → length sites.sites ≡ 64 → Blank sites → events.days ≡ replicate 76 NoEvent → Facts year sites events

@@ -12,6 +12,6 @@ returns c =
     let q₃ : ℕ = c.args.q3 in
     let b : ℕ = c.args.base in
     let n : ℕ = adjusted_from p q p₃ q₃ b in
-    let sum : pos (10 * b) +ℤ c.held-adjustment.result ≡ pos n =
-    ap (λ z. pos (10 * b) +ℤ z) c.held-adjustment.ensures.value ∙ sym (the_adjustment_is_held p q p₃ q₃ b).sum in
+    let sum : pos (10 * b) +ℤ c.held_adjustment.result ≡ pos n =
+    ap (λ z. pos (10 * b) +ℤ z) c.held_adjustment.ensures.value ∙ sym (the_adjustment_is_held p q p₃ q₃ b).sum in
     record { value = omega (arith, ints); bound = omega (arith, ints) }

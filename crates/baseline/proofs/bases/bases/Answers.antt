@@ -8,11 +8,11 @@ loop-hour-preserved c =
     let inv = c.loop-hour.invariant in
     let hour = c.loop-hour.hour in
     let sums = c.loop-hour.sums in
-    let w = c.base-at.result in
+    let w = c.base_at.result in
     let within : hour < length sums = omega arith in (
       length-set sums hour w ∙ inv.0,
-      below_more _ _ (λ k h. let ne : k ≢ hour = omega arith in rw get_or-set_other (inv.1 k h)) (rw get_or-set_same c.base-at.ensures.value),
-      below_more _ _ (λ k h. let ne : k ≢ hour = omega arith in rw get_or-set_other (inv.2 k h)) (rw get_or-set_same c.base-at.ensures.bound),
+      below_more _ _ (λ k h. let ne : k ≢ hour = omega arith in rw get_or-set_other (inv.1 k h)) (rw get_or-set_same c.base_at.ensures.value),
+      below_more _ _ (λ k h. let ne : k ≢ hour = omega arith in rw get_or-set_other (inv.2 k h)) (rw get_or-set_same c.base_at.ensures.bound),
     )
 
 pub returns : goal.returns

@@ -14,11 +14,11 @@ loop-k-preserved c =
     let x = c.args.x.now in
     let e = c.args.event.now in
     let k : ℕ = c.loop-k.k in
-    let y = c.measured-hour.result in
+    let y = c.measured_hour.result in
     let inv = c.loop-k.invariant in (
-      ap (λ xs. set xs k y) inv.0 ∙ so_far_more x e c.args.nominated k y (omega arith) c.measured-hour.ensures.value,
+      ap (λ xs. set xs k y) inv.0 ∙ so_far_more x e c.args.nominated k y (omega arith) c.measured_hour.ensures.value,
       length-set c.loop-k.hours k y ∙ inv.1,
-      All-set Fair c.loop-k.hours k y (c.measured-hour.ensures.reduced, c.measured-hour.ensures.short) inv.2,
+      All-set Fair c.loop-k.hours k y (c.measured_hour.ensures.reduced, c.measured_hour.ensures.short) inv.2,
     )
 
 pub returns : goal.returns

@@ -7,8 +7,8 @@ use Rattle.baseline.proofs.highest.with_earlier_places.Goals as goal
 pub loop-place-init : goal.loop-place-init
 loop-place-init c = c.requires ∙ top_last (total_at c.args.totals.now)
 
-pub with-place-next-requires : goal.with-place-next-requires
-with-place-next-requires c =
+pub with_place-next-requires : goal.with_place-next-requires
+with_place-next-requires c =
     let f : ℕ → ℕ = total_at c.args.totals.now in
     let p : ℕ = c.loop-place.place in
     record {
@@ -23,7 +23,7 @@ loop-place-preserved c =
     let n : ℕ = 10 - c.loop-place.place in
     let here : c.loop-place.place ≡ k + 1 = omega arith in
     let rest : 10 - k ≡ suc n = omega arith in
-    c.with-place-next.ensures ∙ ap (λ top. take 3 (ranked_in f k top)) (c.loop-place.invariant ∙ ap (λ j. top_from f j n) here) ∙ top_more f k n ∙ ap (top_from f k) (sym rest)
+    c.with_place-next.ensures ∙ ap (λ top. take 3 (ranked_in f k top)) (c.loop-place.invariant ∙ ap (λ j. top_from f j n) here) ∙ top_more f k n ∙ ap (top_from f k) (sym rest)
 
 pub returns : goal.returns
 returns c =

@@ -6,22 +6,22 @@ use Rattle.baseline.proofs.Shown.{original-told}
 use Rattle.baseline.proofs.TenDays.{read_of, got_more, days_whole, days_gap}
 use Rattle.baseline.proofs.reads.read_days.Goals as goal
 
-pub returns-in-err-read : goal.returns-in-err-read
-returns-in-err-read g c =
+pub returns-in_err-read : goal.returns-in_err-read
+returns-in_err-read g c =
     let t = g.M.Meter.table c.args.meter.now in
     let days = c.args.days.now in
     let i : ℕ = c.loop-place.place - 1 in
     let kept = c.loop-place.invariant in
-    let f = c.in-err-read.field-0.0 in
+    let f = c.in_err-read.field-0.0 in
     let here : Err f ≡ day_read t Comparison (get_or days i 0) =
-    read_of _ t Comparison (get_or days i 0) (Err f) kept.0 c.in-err-read.ensures.answer in
-    let p = err_from_is_err_and c.from-residual.result c.from-residual.ensures.1 in
-    let told : c.from-residual.result ≡ days_read t days = p.1 ∙ ap Err p.2 ∙ days_gap t days c.loop-place.read i f c.told-days (omega arith) (λ k l. kept.2 k (omega arith)) here in
+    read_of _ t Comparison (get_or days i 0) (Err f) kept.0 c.in_err-read.ensures.answer in
+    let p = err_from_is_err_and c.from_residual.result c.from_residual.ensures.1 in
+    let told : c.from_residual.result ≡ days_read t days = p.1 ∙ ap Err p.2 ∙ days_gap t days c.loop-place.read i f c.told-days (omega arith) (λ k l. kept.2 k (omega arith)) here in
     record {
       answer = told;
-      original = original-told t days c.from-residual.result told;
-      bound = IfOk-from_err c.from-residual.result _ c.from-residual.ensures.0;
-      keeps = c.read-day.ensures.keeps ∙ kept.0;
+      original = original-told t days c.from_residual.result told;
+      bound = IfOk-from_err c.from_residual.result _ c.from_residual.ensures.0;
+      keeps = c.read_day.ensures.keeps ∙ kept.0;
     }
 
 pub loop-place-preserved : goal.loop-place-preserved
@@ -31,13 +31,13 @@ loop-place-preserved g c =
     let read = c.loop-place.read in
     let i : ℕ = c.loop-place.place - 1 in
     let kept = c.loop-place.invariant in
-    let loads = c.in-ok-read.field-0 in
+    let loads = c.in_ok-read.field-0 in
     let within : i < length read = omega arith in
     let here : Ok loads ≡ day_read t Comparison (get_or days i 0) =
-    read_of _ t Comparison (get_or days i 0) (Ok loads) kept.0 c.in-ok-read.ensures.answer in (
-      c.read-day.ensures.keeps ∙ kept.0,
+    read_of _ t Comparison (get_or days i 0) (Ok loads) kept.0 c.in_ok-read.ensures.answer in (
+      c.read_day.ensures.keeps ∙ kept.0,
       length-set read i loads ∙ kept.1,
-      got_more t days read i loads within here c.in-ok-read.ensures.bound (λ k l. kept.2 k (omega arith)),
+      got_more t days read i loads within here c.in_ok-read.ensures.bound (λ k l. kept.2 k (omega arith)),
     )
 
 pub returns : goal.returns

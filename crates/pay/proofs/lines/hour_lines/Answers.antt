@@ -13,7 +13,7 @@ loop-k-preserved c =
     let k : ℕ = c.loop-k.k in
     let y = c.priced.result in
     let x = c.index-hours-k.result in
-    let is : y ≡ priced (get_or hours k x).decreases = c.priced.ensures ∙ ap (λ (p : PlacedHour). priced p.decreases) c.index-hours-k.is in
+    let is : y ≡ priced (get_or hours k x).measured = c.priced.ensures ∙ ap (λ (p : PlacedHour). priced p.measured) c.index-hours-k.is in
     (ap (λ ls. set ls k y) c.loop-k.invariant.0 ∙ lines_to_more hours k y x (omega arith) (omega arith) is, length-set c.loop-k.lines k y ∙ c.loop-k.invariant.1)
 
 pub returns : goal.returns

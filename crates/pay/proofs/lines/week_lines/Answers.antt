@@ -19,11 +19,11 @@ loop-k-init c =
 pub loop-k-preserved : goal.loop-k-preserved
 loop-k-preserved c =
     let k : ℕ = c.loop-k.k in
-    let y = c.week-line-at.result in
+    let y = c.week_line_at.result in
     let inv = c.loop-k.invariant in (
-      ap (λ ws. set ws k y) inv.0 ∙ weeks-to-more c.args.nominations.now c.args.weeks.now.days c.args.hours.now k y (omega arith) c.week-line-at.ensures.value,
+      ap (λ ws. set ws k y) inv.0 ∙ weeks-to-more c.args.nominations.now c.args.weeks.now.days c.args.hours.now k y (omega arith) c.week_line_at.ensures.value,
       length-set c.loop-k.lines k y ∙ inv.1,
-      All-set Low c.loop-k.lines k y c.week-line-at.ensures.bound inv.2,
+      All-set Low c.loop-k.lines k y c.week_line_at.ensures.bound inv.2,
     )
 
 pub returns : goal.returns

@@ -10,6 +10,6 @@ returns c =
     let nominations = c.args.nominations.now in
     let weeks = c.args.weeks.now in
     let told : c.written.result ≡ statement_from hours nominations weeks.days weeks.last =
-    c.written.ensures ∙ totalled_is hours nominations weeks.days weeks.last c.hour-lines-lines.result c.week-lines-week-lines.result c.total-capacity.result c.total-energy.result c.total-adjustment.result
-    c.hour-lines-lines.ensures c.week-lines-week-lines.ensures.value c.total-capacity.ensures.value c.total-energy.ensures.value c.total-adjustment.ensures in
+    c.written.ensures ∙ totalled_is hours nominations weeks.days weeks.last c.hour_lines-lines.result c.week_lines-week_lines.result c.total_capacity.result c.total_energy.result c.total_adjustment.result
+    c.hour_lines-lines.ensures c.week_lines-week_lines.ensures.value c.total_capacity.ensures.value c.total_energy.ensures.value c.total_adjustment.ensures in
     record { value = told; tariff = λ year x of. told ∙ year-paid year x hours nominations weeks.days weeks.last of }

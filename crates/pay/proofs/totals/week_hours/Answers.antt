@@ -7,7 +7,7 @@ pub loop-hour-preserved : goal.loop-hour-preserved
 loop-hour-preserved c =
     let hours = c.args.hours.now in
     let inv = c.loop-hour.invariant in
-    let step = c.hours-for-total in
+    let step = c.hours_for-total in
     (sum_more (hour_in c.args.week) hours c.loop-hour.hour-index c.hour-item.result c.loop-hour.total step.result (omega arith) c.hour-item.is inv.0 step.ensures.value, omega arith)
 
 pub returns : goal.returns

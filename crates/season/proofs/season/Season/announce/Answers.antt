@@ -10,11 +10,11 @@ use Rattle.season.specs.View.{view, view_of}
 use Rattle.season.proofs.Sounds.{still_sound, facts}
 use Rattle.season.proofs.season.Season.announce.Goals as goal
 
-pub invariant-of-self : goal.invariant-of-self
-invariant-of-self c =
+pub invariant_of-self : goal.invariant_of-self
+invariant_of-self c =
     let s = c.args.self.now in
     let call : Call = Announce c.args.moment c.args.start c.args.length in
-    let a : Result Answer SeasonRefusal = Ok (Announced c.in-ok-accepted.accepted) in
+    let a : Result Answer SeasonRefusal = Ok (Announced c.in_ok-accepted.accepted) in
     let m : model.Season = view_of s.year s.closed c.args.moment s.sites c.put.new.self in
     let answered : a ≡ answer (view s) call = search rules in
     let e : m ≡ after (view s) call a = search rules in

@@ -9,8 +9,8 @@ use Rattle.season.proofs.Sounds.{sound_of}
 use Rattle.season.proofs.season.Season.hours_before.Goals as goal
 use Rattle.season.proofs.season.Season.hours_before.Goals.{then-stands, else-stands}
 
-pub push-day-requires : goal.push-day-requires
-push-day-requires c =
+pub push_day-requires : goal.push_day-requires
+push_day-requires c =
     let days = c.args.self.now.events.days in
     let d = c.loop-day.day in
     let held : c.day-held.result ≡ day_in days d = search rules in
@@ -31,9 +31,9 @@ loop-day-preserved c =
       elim c.if-stands.branch [ then-stands w ↦ omega (arith, w.numbered-is) | else-stands w ↦ omega (arith, w.numbered-is) ],
       search (rules, standing_more),
       omega (arith, hours_more days d, ap day_hours held),
-      day_listed days d _ _ _ _ inv.1 inv.3 held c.push-day.ensures.list,
-      c.push-day.ensures.rest,
-      c.push-day.ensures.cells,
+      day_listed days d _ _ _ _ inv.1 inv.3 held c.push_day.ensures.list,
+      c.push_day.ensures.rest,
+      c.push_day.ensures.cells,
     )
 
 pub loop-day-init : goal.loop-day-init

@@ -13,7 +13,7 @@ loop-call-preserved c =
     let i = c.loop-call.call-index in (
       omega arith,
       run_more _ _ _ _ _ _ _ c.loop-call-test.true answered after inv.1,
-      ap (λ xs. xs ++ answers (view c.call-answer.new.self) (drop (i + 1) cs)) c.push-reserved.ensures.items
+      ap (λ xs. xs ++ answers (view c.call-answer.new.self) (drop (i + 1) cs)) c.push_reserved.ensures.items
           ∙ answers-more _ _ _ _ _ _ _ _ c.loop-call-test.true answered after inv.2,
     )
 

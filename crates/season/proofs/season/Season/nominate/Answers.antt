@@ -10,11 +10,11 @@ use Rattle.season.specs.View.{view, view_of}
 use Rattle.season.proofs.Sounds.{still_sound, facts}
 use Rattle.season.proofs.season.Season.nominate.Goals as goal
 
-pub invariant-of-self : goal.invariant-of-self
-invariant-of-self c =
+pub invariant_of-self : goal.invariant_of-self
+invariant_of-self c =
     let s = c.args.self.now in
     let call : Call = Nominate c.args.moment c.args.site c.args.week c.args.kw in
-    let a : Result Answer SeasonRefusal = Ok (Week c.in-ok-taken.taken) in
+    let a : Result Answer SeasonRefusal = Ok (Week c.in_ok-taken.taken) in
     let m : model.Season = view_of s.year s.closed s.clock c.nominate.new.self s.events in
     let answered : a ≡ answer (view s) call = search rules in
     let e : m ≡ after (view s) call a = search rules in
