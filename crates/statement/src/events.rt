@@ -59,9 +59,9 @@ pub(crate) fn measure_standing<M: Meter>(
 ) -> Result<MeasuredEvent, EventFault>
     requires stands { day_at (view season.now) day ≡ Standing event }
     requires fit { Fit (view season.now).year day event }
-    ensures answer { result ≡ standing_measured (view season.now) site.now (table meter.old) number day event }
+    ensures answer { result ≡ standing_measured (view season.now) site.now (M.table meter.old) number day event }
     ensures bounds { IfOk result Bounded }
-    ensures keeps { table meter.new ≡ table meter.old }
+    ensures keeps { M.table meter.new ≡ M.table meter.old }
 {
     let days = comparison_of(season, day);
     let span = span_of(number, day, event);

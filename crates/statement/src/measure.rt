@@ -40,8 +40,8 @@ fn measure_day<M: Meter>(
     requires low { number ≤ day + 1 }
     requires room { length (listed list.old) + day_hours (day_at (view season.now) day) ≤ 60 }
     requires weeks { All (InYear (view season.now).year) (listed list.old) }
-    ensures told { DayTold (view season.now) site.now (table meter.old) day list.old list.new result }
-    ensures keeps { table meter.new ≡ table meter.old }
+    ensures told { DayTold (view season.now) site.now (M.table meter.old) day list.old list.new result }
+    ensures keeps { M.table meter.new ≡ M.table meter.old }
 {
     let held = season.day(u32::from(day));
     let next = next_number(number, held);
@@ -62,8 +62,8 @@ pub(crate) fn measure_season<M: Meter>(
     site: &Site,
     meter: &mut M,
 ) -> Result<HourList, StatementRefusal>
-    ensures told { SeasonTold (view season.now) site.now (table meter.old) result }
-    ensures keeps { table meter.new ≡ table meter.old }
+    ensures told { SeasonTold (view season.now) site.now (M.table meter.old) result }
+    ensures keeps { M.table meter.new ≡ M.table meter.old }
 {
     season.stays_sound();
     let mut list = HourList::none();

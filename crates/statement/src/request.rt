@@ -18,9 +18,9 @@ pub fn statement<M: Meter>(
     meter: &mut M,
     filled: &mut Statement,
 ) -> Result<u32, StatementRefusal>
-    ensures answer { result ≡ hours_answered (outcome (view season.now) site (table meter.old)) }
-    ensures filled { filled.new ≡ record_after filled.old (outcome (view season.now) site (table meter.old)) }
-    ensures keeps { table meter.new ≡ table meter.old }
+    ensures answer { result ≡ hours_answered (outcome (view season.now) site (M.table meter.old)) }
+    ensures filled { filled.new ≡ record_after filled.old (outcome (view season.now) site (M.table meter.old)) }
+    ensures keeps { M.table meter.new ≡ M.table meter.old }
     ensures deeper_cut_never_costs { AfterAnyCalls DeeperCutNeverCosts }
     ensures events_stand_apart { AfterAnyCalls EventsStandApart }
     ensures sites_stand_apart { SitesStandApart }

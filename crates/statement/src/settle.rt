@@ -17,8 +17,8 @@ fn settle_site<M: Meter>(
     site: &Site,
     meter: &mut M,
 ) -> Result<(Statement, u32), StatementRefusal>
-    ensures answer { result ≡ refused_or (season_fault (view season.now) (table meter.old)) (statement_of (view season.now) site.now (table meter.old), length (season_event_hours (view season.now))) }
-    ensures keeps { table meter.new ≡ table meter.old }
+    ensures answer { result ≡ refused_or (season_fault (view season.now) (M.table meter.old)) (statement_of (view season.now) site.now (M.table meter.old), length (season_event_hours (view season.now))) }
+    ensures keeps { M.table meter.new ≡ M.table meter.old }
 {
     let list = measure_season(season, site, meter)?;
     let weeks = weeks_of(season.year());
@@ -32,8 +32,8 @@ pub(crate) fn settle<M: Meter>(
     site: u32,
     meter: &mut M,
 ) -> Result<(Statement, u32), StatementRefusal>
-    ensures answer { result ≡ outcome (view season.now) site (table meter.old) }
-    ensures keeps { table meter.new ≡ table meter.old }
+    ensures answer { result ≡ outcome (view season.now) site (M.table meter.old) }
+    ensures keeps { M.table meter.new ≡ M.table meter.old }
 {
     if !season.is_closed() {
         return Err(StatementRefusal::SeasonNotClosed);

@@ -4,22 +4,22 @@ use Rattle.entries.specs.Reading.{nominate_after}
 use Rattle.entries.proofs.Steps.{went, failed, handed_on_as}
 use Rattle.entries.proofs.read.read_nominate.Goals as goal
 
-pub returns-in-err-moment : goal.returns-in-err-moment
+pub returns-in_err-moment : goal.returns-in_err-moment
 unfolding nominate_after
-returns-in-err-moment c = handed_on_as asked _ c.from-residual.ensures.1 (failed _ c.in-err-moment.ensures)
+returns-in_err-moment c = handed_on_as asked _ c.from_residual.ensures.1 (failed _ c.in_err-moment.ensures)
 
-pub returns-in-err-site : goal.returns-in-err-site
+pub returns-in_err-site : goal.returns-in_err-site
 unfolding nominate_after
-returns-in-err-site c = handed_on_as asked _ c.from-residual-in-err-site.ensures.1 (went _ c.in-ok-moment.ensures (failed _ c.in-err-site.ensures))
+returns-in_err-site c = handed_on_as asked _ c.from_residual-in_err-site.ensures.1 (went _ c.in_ok-moment.ensures (failed _ c.in_err-site.ensures))
 
-pub returns-in-err-week : goal.returns-in-err-week
+pub returns-in_err-week : goal.returns-in_err-week
 unfolding nominate_after
-returns-in-err-week c = handed_on_as asked _ c.from-residual-in-err-week.ensures.1 (went _ c.in-ok-moment.ensures (went _ c.in-ok-site.ensures (failed _ c.in-err-week.ensures)))
+returns-in_err-week c = handed_on_as asked _ c.from_residual-in_err-week.ensures.1 (went _ c.in_ok-moment.ensures (went _ c.in_ok-site.ensures (failed _ c.in_err-week.ensures)))
 
-pub returns-in-err-kw : goal.returns-in-err-kw
+pub returns-in_err-kw : goal.returns-in_err-kw
 unfolding nominate_after
-returns-in-err-kw c = handed_on_as asked _ c.from-residual-in-err-kw.ensures.1 (went _ c.in-ok-moment.ensures (went _ c.in-ok-site.ensures (went _ c.in-ok-week.ensures (failed _ c.in-err-kw.ensures))))
+returns-in_err-kw c = handed_on_as asked _ c.from_residual-in_err-kw.ensures.1 (went _ c.in_ok-moment.ensures (went _ c.in_ok-site.ensures (went _ c.in_ok-week.ensures (failed _ c.in_err-kw.ensures))))
 
 pub returns : goal.returns
 unfolding nominate_after
-returns c = went _ c.in-ok-moment.ensures (went _ c.in-ok-site.ensures (went _ c.in-ok-week.ensures (went _ c.in-ok-kw.ensures refl)))
+returns c = went _ c.in_ok-moment.ensures (went _ c.in_ok-site.ensures (went _ c.in_ok-week.ensures (went _ c.in_ok-kw.ensures refl)))

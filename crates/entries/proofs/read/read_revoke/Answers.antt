@@ -4,10 +4,10 @@ use Rattle.entries.specs.Reading.{revoke_after}
 use Rattle.entries.proofs.Steps.{went, failed, handed_on_as}
 use Rattle.entries.proofs.read.read_revoke.Goals as goal
 
-pub returns-in-err-moment : goal.returns-in-err-moment
+pub returns-in_err-moment : goal.returns-in_err-moment
 unfolding revoke_after
-returns-in-err-moment c = handed_on_as asked _ c.from-residual.ensures.1 (failed _ c.in-err-moment.ensures)
+returns-in_err-moment c = handed_on_as asked _ c.from_residual.ensures.1 (failed _ c.in_err-moment.ensures)
 
 pub returns : goal.returns
 unfolding revoke_after
-returns c = went _ c.in-ok-moment.ensures refl
+returns c = went _ c.in_ok-moment.ensures refl

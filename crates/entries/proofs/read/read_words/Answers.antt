@@ -10,20 +10,20 @@ pub returns-in-None : goal.returns-in-None
 unfolding entry_of_line
 returns-in-None c = ap entry_from (c.in-None.ensures ∙ ap next_word c.cut.ensures.piece)
 
-pub returns-in-err-keyword : goal.returns-in-err-keyword
+pub returns-in_err-keyword-in-Some : goal.returns-in_err-keyword-in-Some
 unfolding entry_of_line
-returns-in-err-keyword c =
+returns-in_err-keyword-in-Some c =
     let words = c.in-Some.ensures ∙ ap next_word c.cut.ensures.piece in
-    handed_on_as (option_map asked) _ c.from-residual.ensures.1 (failed _ c.in-err-keyword.ensures ∙ ap entry_from words)
+    handed_on_as (option_map asked) _ c.from_residual.ensures.1 (failed _ c.in_err-keyword-in-Some.ensures ∙ ap entry_from words)
 
-pub returns-in-err-entry : goal.returns-in-err-entry
+pub returns-in_err-entry-in-Some : goal.returns-in_err-entry-in-Some
 unfolding entry_of_line
-returns-in-err-entry c =
+returns-in_err-entry-in-Some c =
     let words = c.in-Some.ensures ∙ ap next_word c.cut.ensures.piece in
-    handed_on_as (option_map asked) _ c.from-residual-in-err-entry.ensures.1 (went _ c.in-ok-keyword.ensures (failed _ c.in-err-entry.ensures) ∙ ap entry_from words)
+    handed_on_as (option_map asked) _ c.from_residual-in_err-entry-in-Some.ensures.1 (went _ c.in_ok-keyword-in-Some.ensures (failed _ c.in_err-entry-in-Some.ensures) ∙ ap entry_from words)
 
-pub returns-in-ok-entry : goal.returns-in-ok-entry
+pub returns-in_ok-entry-in-Some : goal.returns-in_ok-entry-in-Some
 unfolding entry_of_line
-returns-in-ok-entry c =
+returns-in_ok-entry-in-Some c =
     let words = c.in-Some.ensures ∙ ap next_word c.cut.ensures.piece in
-    went _ c.in-ok-keyword.ensures (went _ c.in-ok-entry.ensures refl) ∙ ap entry_from words
+    went _ c.in_ok-keyword-in-Some.ensures (went _ c.in_ok-entry-in-Some.ensures refl) ∙ ap entry_from words

@@ -12,6 +12,6 @@ pub returns-in-aggregated : goal.returns-in-aggregated
 unfolding kind_named
 returns-in-aggregated c = sym (ap kind_named c.in-aggregated.is)
 
-pub returns-in-default : goal.returns-in-default
+pub returns-in_default : goal.returns-in_default
 unfolding kind_named
-returns-in-default c = let no' = c.in-default in no_meaning NoKind kinds c.args.word.now (no'.not-single, (no'.not-aggregated, tt))
+returns-in_default c = let no' = c.in_default in no_meaning NoKind kinds c.args.word.now (no'.not-single, (no'.not-aggregated, tt))

@@ -44,6 +44,6 @@ pub returns-in-compare : goal.returns-in-compare
 unfolding keyword_of
 returns-in-compare c = sym (ap keyword_of c.in-compare.is)
 
-pub returns-in-default : goal.returns-in-default
+pub returns-in_default : goal.returns-in_default
 unfolding keyword_of
-returns-in-default c = let no' = c.in-default in no_meaning UnknownWord keywords c.args.word.now (no'.not-label, (no'.not-open, (no'.not-enrol, (no'.not-nominate, (no'.not-announce, (no'.not-revoke, (no'.not-close, (no'.not-meter, (no'.not-statement, (no'.not_compare, tt))))))))))
+returns-in_default c = let no' = c.in_default in no_meaning UnknownWord keywords c.args.word.now (no'.not-label, (no'.not-open, (no'.not-enrol, (no'.not-nominate, (no'.not-announce, (no'.not-revoke, (no'.not-close, (no'.not-meter, (no'.not-statement, (no'.not-compare, tt))))))))))

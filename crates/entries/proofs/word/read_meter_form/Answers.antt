@@ -16,6 +16,6 @@ pub returns-in-pair : goal.returns-in-pair
 unfolding meter_form_of
 returns-in-pair c = sym (ap meter_form_of c.in-pair.is)
 
-pub returns-in-default : goal.returns-in-default
+pub returns-in_default : goal.returns-in_default
 unfolding meter_form_of
-returns-in-default c = let no' = c.in-default in no_meaning UnknownWord meter_forms c.args.word.now (no'.not-hourly, (no'.not-quarter, (no'.not-pair, tt)))
+returns-in_default c = let no' = c.in_default in no_meaning UnknownWord meter_forms c.args.word.now (no'.not-hourly, (no'.not-quarter, (no'.not-pair, tt)))

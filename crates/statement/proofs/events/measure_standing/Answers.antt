@@ -13,13 +13,13 @@ returns-in-Ok g c =
     let t = g.M.Meter.table c.args.meter.now in
     let site = c.args.site.now in
     let day = c.args.day in
-    let nominated = c.nomination-on-nominated.ensures ∙ ap (λ y. nomination_for site (week_of y day)) c.year.ensures in
-    let told = c.span-of-span.ensures in
-    let same = span_measured (view c.args.season.now) site t c.args.number day c.args.event c.span-of-span.result c.comparison-of-days.result.days c.nomination-on-nominated.result c.requires.stands c.comparison-of-days.ensures nominated told.number told.day told.notice told.start told.length in
+    let nominated = c.nomination_on-nominated.ensures ∙ ap (λ y. nomination_for site (week_of y day)) c.year.ensures in
+    let told = c.span_of-span.ensures in
+    let same = span_measured (view c.args.season.now) site t c.args.number day c.args.event c.span_of-span.result c.comparison_of-days.result.days c.nomination_on-nominated.result c.requires.stands c.comparison_of-days.ensures nominated told.number told.day told.notice told.start told.length in
     record {
       answer = ap (with_number {A = MeasuredEvent} c.args.number) (c.in-Ok.ensures.answer ∙ same);
       bounds = c.in-Ok.ensures.bounds;
-      keeps = c.measure-event.ensures.keeps;
+      keeps = c.measure_event.ensures.keeps;
     }
 
 pub returns-in-Err : goal.returns-in-Err
@@ -28,11 +28,11 @@ returns-in-Err g c =
     let t = g.M.Meter.table c.args.meter.now in
     let site = c.args.site.now in
     let day = c.args.day in
-    let nominated = c.nomination-on-nominated.ensures ∙ ap (λ y. nomination_for site (week_of y day)) c.year.ensures in
-    let told = c.span-of-span.ensures in
-    let same = span_measured (view c.args.season.now) site t c.args.number day c.args.event c.span-of-span.result c.comparison-of-days.result.days c.nomination-on-nominated.result c.requires.stands c.comparison-of-days.ensures nominated told.number told.day told.notice told.start told.length in
+    let nominated = c.nomination_on-nominated.ensures ∙ ap (λ y. nomination_for site (week_of y day)) c.year.ensures in
+    let told = c.span_of-span.ensures in
+    let same = span_measured (view c.args.season.now) site t c.args.number day c.args.event c.span_of-span.result c.comparison_of-days.result.days c.nomination_on-nominated.result c.requires.stands c.comparison_of-days.ensures nominated told.number told.day told.notice told.start told.length in
     record {
       answer = ap (with_number {A = MeasuredEvent} c.args.number) (c.in-Err.ensures.answer ∙ same);
       bounds = tt;
-      keeps = c.measure-event.ensures.keeps;
+      keeps = c.measure_event.ensures.keeps;
     }

@@ -10,51 +10,51 @@ use Rattle.statement.specs.Measured.{InYear, DayMeasured, DayTold}
 use Rattle.statement.proofs.DayByDay.{quiet_day, count_of, days-within, standing-day, standing-fault}
 use Rattle.statement.proofs.measure.measure_day.Goals as goal
 
-pub returns-in-err-measured : goal.returns-in-err-measured
-returns-in-err-measured g c =
+pub returns-in_err-measured-in-Standing : goal.returns-in_err-measured-in-Standing
+returns-in_err-measured-in-Standing g c =
     let s = view c.args.season.now in
     let x = c.args.site.now in
     let t = g.M.Meter.table c.args.meter.now in
     let list = c.args.list.now in
-    let f = c.in-err-measured.field-0.0 in
+    let f = c.in_err-measured-in-Standing.field-0.0 in
     let held : day_at s c.args.day ≡ Standing c.in-Standing.event = ap (day_at s) (sym c.from.ensures) ∙ sym c.day-held.ensures.is ∙ c.in-Standing.is in
-    let p = err_from_is_err_and c.from-residual.result c.from-residual.ensures.1 in
-    let is : c.from-residual.result ≡ Err f = p.1 ∙ ap Err p.2 in
-    let fault = standing-fault s x t c.args.day c.in-Standing.event c.args.number held c.requires.number f c.in-err-measured.ensures.answer in
+    let p = err_from_is_err_and c.from_residual.result c.from_residual.ensures.1 in
+    let is : c.from_residual.result ≡ Err f = p.1 ∙ ap Err p.2 in
+    let fault = standing-fault s x t c.args.day c.in-Standing.event c.args.number held c.requires.number f c.in_err-measured-in-Standing.ensures.answer in
     record {
       told = subst (DayTold s x t c.args.day list list) (sym is) fault;
-      keeps = c.measure-standing.ensures.keeps;
+      keeps = c.measure_standing.ensures.keeps;
     }
 
-pub push-event-requires : goal.push-event-requires
-push-event-requires g c =
+pub push_event-requires : goal.push_event-requires
+push_event-requires g c =
     let s = view c.args.season.now in
     let x = c.args.site.now in
     let t = g.M.Meter.table c.args.meter.now in
-    let m = c.in-ok-measured.measured in
+    let m = c.in_ok-measured-in-Standing.measured in
     let held : day_at s c.args.day ≡ Standing c.in-Standing.event = ap (day_at s) (sym c.from.ensures) ∙ sym c.day-held.ensures.is ∙ c.in-Standing.is in
-    let told = c.in-ok-measured.ensures.answer in
+    let told = c.in_ok-measured-in-Standing.ensures.answer in
     let count = count_of s x t c.args.day c.in-Standing.event c.args.number held c.requires.number m told in
     record {
       room = omega (arith, count, c.requires.room);
-      bounds = c.in-ok-measured.ensures.bounds;
+      bounds = c.in_ok-measured-in-Standing.ensures.bounds;
       days = λ k h. days-within s x t c.args.day c.in-Standing.event c.args.number held c.requires.number m told c.requires.day k;
       weeks = subst (λ (y : ℕ). All (InYear y) (listed c.args.list.now)) (sym c.year.ensures) c.requires.weeks;
     }
 
-pub returns-in-ok-measured : goal.returns-in-ok-measured
-returns-in-ok-measured g c =
+pub returns-in_ok-measured-in-Standing : goal.returns-in_ok-measured-in-Standing
+returns-in_ok-measured-in-Standing g c =
     let s = view c.args.season.now in
     let x = c.args.site.now in
     let t = g.M.Meter.table c.args.meter.now in
-    let m = c.in-ok-measured.measured in
-    let after = c.push-event.new.list in
+    let m = c.in_ok-measured-in-Standing.measured in
+    let after = c.push_event.new.list in
     let held : day_at s c.args.day ≡ Standing c.in-Standing.event = ap (day_at s) (sym c.from.ensures) ∙ sym c.day-held.ensures.is ∙ c.in-Standing.is in
-    let weeks = subst (λ (y : ℕ). All (InYear y) (listed after)) c.year.ensures c.push-event.ensures.weeks in
-    let more : c.next-number-next.result ≡ c.args.number + 1 = c.next-number-next.ensures ∙ ap (λ day. c.args.number + cond (stands day) 1 0) c.in-Standing.is in
+    let weeks = subst (λ (y : ℕ). All (InYear y) (listed after)) c.year.ensures c.push_event.ensures.weeks in
+    let more : c.next_number-next.result ≡ c.args.number + 1 = c.next_number-next.ensures ∙ ap (λ day. c.args.number + cond (stands day) 1 0) c.in-Standing.is in
     record {
-      told = subst (DayMeasured s x t c.args.day c.args.list.now after) (sym more) (standing-day s x t c.args.day c.in-Standing.event c.args.number held c.requires.number m c.args.list.now after c.in-ok-measured.ensures.answer c.requires.low c.push-event.ensures.counts c.push-event.ensures.hours weeks);
-      keeps = c.measure-standing.ensures.keeps;
+      told = subst (DayMeasured s x t c.args.day c.args.list.now after) (sym more) (standing-day s x t c.args.day c.in-Standing.event c.args.number held c.requires.number m c.args.list.now after c.in_ok-measured-in-Standing.ensures.answer c.requires.low c.push_event.ensures.counts c.push_event.ensures.hours weeks);
+      keeps = c.measure_standing.ensures.keeps;
     }
 
 pub returns-in-NoEvent : goal.returns-in-NoEvent
@@ -62,8 +62,8 @@ returns-in-NoEvent g c =
     let s = view c.args.season.now in
     let t = g.M.Meter.table c.args.meter.now in
     let held : day_at s c.args.day ≡ NoEvent = ap (day_at s) (sym c.from.ensures) ∙ sym c.day-held.ensures.is ∙ c.in-NoEvent.is in
-    let none : c.next-number-next.result ≡ c.args.number + 0 = c.next-number-next.ensures ∙ ap (λ day. c.args.number + cond (stands day) 1 0) c.in-NoEvent.is in
-    let same : c.next-number-next.result ≡ c.args.number = omega (arith, none) in
+    let none : c.next_number-next.result ≡ c.args.number + 0 = c.next_number-next.ensures ∙ ap (λ day. c.args.number + cond (stands day) 1 0) c.in-NoEvent.is in
+    let same : c.next_number-next.result ≡ c.args.number = omega (arith, none) in
     record {
       told = subst (DayMeasured s c.args.site.now t c.args.day c.args.list.now c.args.list.now) (sym same) (quiet_day s c.args.site.now t c.args.day NoEvent c.args.list.now c.args.number held refl refl (λ n. refl) c.requires.number c.requires.low c.requires.weeks);
       keeps = refl;
@@ -75,8 +75,8 @@ returns-in-Revoked g c =
     let t = g.M.Meter.table c.args.meter.now in
     let e = c.in-Revoked.field-0 in
     let held : day_at s c.args.day ≡ Revoked e = ap (day_at s) (sym c.from.ensures) ∙ sym c.day-held.ensures.is ∙ c.in-Revoked.is in
-    let none : c.next-number-next.result ≡ c.args.number + 0 = c.next-number-next.ensures ∙ ap (λ day. c.args.number + cond (stands day) 1 0) c.in-Revoked.is in
-    let same : c.next-number-next.result ≡ c.args.number = omega (arith, none) in
+    let none : c.next_number-next.result ≡ c.args.number + 0 = c.next_number-next.ensures ∙ ap (λ day. c.args.number + cond (stands day) 1 0) c.in-Revoked.is in
+    let same : c.next_number-next.result ≡ c.args.number = omega (arith, none) in
     record {
       told = subst (DayMeasured s c.args.site.now t c.args.day c.args.list.now c.args.list.now) (sym same) (quiet_day s c.args.site.now t c.args.day (Revoked e) c.args.list.now c.args.number held refl refl (λ n. refl) c.requires.number c.requires.low c.requires.weeks);
       keeps = refl;

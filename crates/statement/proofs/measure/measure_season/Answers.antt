@@ -28,8 +28,8 @@ loop-day-init g c =
       λ k h. let z : ⊥ = omega arith in absurd z,
     )
 
-pub measure-day-requires : goal.measure-day-requires
-measure-day-requires g c =
+pub measure_day-requires : goal.measure_day-requires
+measure_day-requires g c =
     let s = view c.args.season.now in
     let inv = c.loop-day.invariant in
     let d = c.loop-day.day in
@@ -37,24 +37,24 @@ measure-day-requires g c =
       day = omega arith;
       number = inv.1;
       low = inv.2;
-      room = room_for_day s d (length (listed c.loop-day.list)) (omega arith) c.stays-sound.ensures.overall inv.3;
+      room = room_for_day s d (length (listed c.loop-day.list)) (omega arith) c.stays_sound.ensures.overall inv.3;
       weeks = inv.5;
     }
 
-pub returns-in-err-number : goal.returns-in-err-number
-returns-in-err-number g c =
+pub returns-in_err-number : goal.returns-in_err-number
+returns-in_err-number g c =
     let s = view c.args.season.now in
     let x = c.args.site.now in
     let t = g.M.Meter.table c.args.meter.now in
     let inv = c.loop-day.invariant in
     let d = c.loop-day.day in
-    let f = c.in-err-number.field-0.0 in
-    let p = err_from_is_err_and c.from-residual.result c.from-residual.ensures.1 in
-    let is : c.from-residual.result ≡ Err (EventWithoutBaseline f.event f.fault) = p.1 ∙ ap Err p.2 in
-    let here = subst (λ (u : Table). day_refusal s u d ≡ Some (EventWithoutBaseline f.event f.fault)) inv.0 c.in-err-number.ensures.told in
+    let f = c.in_err-number.field-0.0 in
+    let p = err_from_is_err_and c.from_residual.result c.from_residual.ensures.1 in
+    let is : c.from_residual.result ≡ Err (EventWithoutBaseline f.event f.fault) = p.1 ∙ ap Err p.2 in
+    let here = subst (λ (u : Table). day_refusal s u d ≡ Some (EventWithoutBaseline f.event f.fault)) inv.0 c.in_err-number.ensures.told in
     record {
       told = subst (SeasonTold s x t) (sym is) (first_fault s t d (EventWithoutBaseline f.event f.fault) (omega arith) inv.6 here);
-      keeps = c.measure-day.ensures.keeps ∙ inv.0;
+      keeps = c.measure_day.ensures.keeps ∙ inv.0;
     }
 
 pub loop-day-preserved : goal.loop-day-preserved
@@ -65,10 +65,10 @@ loop-day-preserved g c =
     let inv = c.loop-day.invariant in
     let d = c.loop-day.day in
     let before = c.loop-day.list in
-    let after = c.measure-day.new.list in
-    let n = c.in-ok-number.number in
-    let day : DayMeasured s x t d before after n = subst (λ (u : Table). DayMeasured s x u d before after n) inv.0 c.in-ok-number.ensures.told in (
-      c.measure-day.ensures.keeps ∙ inv.0,
+    let after = c.measure_day.new.list in
+    let n = c.in_ok-number.number in
+    let day : DayMeasured s x t d before after n = subst (λ (u : Table). DayMeasured s x u d before after n) inv.0 c.in_ok-number.ensures.told in (
+      c.measure_day.ensures.keeps ∙ inv.0,
       day.number,
       omega (arith, day.low),
       counts-more s x t d n before after day inv.3,

@@ -7,6 +7,6 @@ returns g c =
     let s = view c.args.season.now in
     let t = g.M.Meter.table c.args.meter.now in
     record {
-      answer = settled s c.args.site.now t c.in-ok-list.list c.weeks-of-weeks.result c.year.result c.statement-from-record.result c.len.result c.in-ok-list.ensures.told c.statement-from-record.ensures.tariff c.year.ensures c.weeks-of-weeks.ensures.last c.weeks-of-weeks.ensures.days c.len.ensures.value;
-      keeps = c.measure-season.ensures.keeps;
+      answer = settled s c.args.site.now t c.in_ok-list.list c.weeks_of-weeks.result c.year.result c.statement_from-record.result c.len.result c.in_ok-list.ensures.told c.statement_from-record.ensures.tariff c.year.ensures c.weeks_of-weeks.ensures.last c.weeks_of-weeks.ensures.days c.len.ensures.value;
+      keeps = c.measure_season.ensures.keeps;
     }
