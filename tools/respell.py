@@ -3,11 +3,11 @@
 (`Adds-up` becomes `AddsUp`), every other definition, field and lemma in snake case (`week-of` becomes `week_of`). A lemma that would
 get the name of a function of its crate gets `_lem` behind it, and OWN says the few names that would fall together with another.
 
-usage: tools/respell.py     at the top of the repository, once
+usage: tools/respell.py     at the top of the repository
 
-Names are those that a specs/ or proofs/ file declares; names that the check makes (of goals, steps and measures) and names of the
-library stay. It changes .antt files, the lines of must-fail/*.edit, and in .rt files what stands outside strings and characters.
-It prints the names that still fall together."""
+Names are those that a specs/ or proofs/ file declares, and they are respelled in its crate and in the crates above it. Names that the
+check makes (of goals, steps and measures) and names of the library stay. It changes .antt files, the lines of must-fail/*.edit, and in
+.rt files what stands outside strings and characters. It prints the names that still fall together. A second run changes nothing."""
 import collections
 import glob
 import re
@@ -19,12 +19,13 @@ OWN = {
     "event-hours": "season_event_hours",
     "meter-hours": "hours_of_meters",
 }
-MADE = re.compile(r"^(decreases|invariant|ghost|returns|loop|if|in|then|else|overflow|bounds|slice_bounds|nonzero|branch)\b")
+MADE = ("decreases-", "invariant-", "ghost-", "returns-", "loop-")
 DECL = re.compile(r"^(?P<pre>(?:abbrev |unfoldable |pub |record |data )*)(?P<name>[^\s(){}:,;]+)(?P<rest>.*)$")
-SKIP = ("--", "use ", "mod ", "pub mod ", "unfolding", "ruleset", "pub ruleset", "mutual", "where", "infix")
-FIELD = re.compile(r"^\s+(?:pub )?([^\s(){}:,;.=]+)\s*:\s")
+INNER = re.compile(r"^\s+(?P<pre>(?:abbrev |unfoldable |pub )*)(?P<name>[^\s(){}:,;.=]+)\s*:\s")
+SKIP = ("--", "use ", "mod ", "pub mod ", "module ", "unfolding", "ruleset", "pub ruleset", "mutual", "where", "infix", "let ", "|", "in ")
 GOAL = re.compile(r"\bgoal\.([^\s(){}:,;]+)")
-STD = re.compile(r"use (?:Rattle\.std|borrow|Prim|mathlib|lib)\.[^;\n]*\{([^}]*)\}")
+STD = re.compile(r"use (?:Rattle\.std|borrow|Prim|mathlib|lib|denote)\.[^;\n]*\{([^}]*)\}")
+ALIAS = re.compile(r"use [^;\n{]* as ([\w-]+)")
 
 
 def read(p):
@@ -32,56 +33,96 @@ def read(p):
         return f.read()
 
 
-def antt():
-    return sorted(p for d in ("specs", "proofs") for p in glob.glob(f"crates/*/{d}/**/*.antt", recursive=True))
+def antt(crate="*"):
+    return sorted(p for d in ("specs", "proofs") for p in glob.glob(f"crates/{crate}/{d}/**/*.antt", recursive=True))
 
 
-def respelled(name, kind):
-    parts = name.split("-")
-    if kind == "lower":
-        return "_".join(parts)
-    return "".join(p[:1].upper() + p[1:] for p in parts)
+def code(crate="*"):
+    return sorted(glob.glob(f"crates/{crate}/src/**/*.rt", recursive=True))
 
 
-def declared():
-    """The names that can be respelled: name -> the set of (file, kind, is a lemma)."""
-    found, made, library = collections.defaultdict(set), set(), set()
-    for p in antt() + glob.glob("crates/*/src/**/*.rt", recursive=True):
-        for m in STD.finditer(read(p)):
-            library |= {w.strip().split(" as ")[0] for w in m[1].split(",")}
-    for p in antt():
-        text = read(p)
-        made |= set(GOAL.findall(text))
+def crates():
+    """Each crate with the crates that it sees: itself and those below it."""
+    lines = [line.split("#")[0].split(":") for line in read("crates.txt").split("\n") if ":" in line.split("#")[0]]
+    below = {name.strip().split()[0]: deps.split() for name, deps in lines}
+
+    def seen(name):
+        return {name}.union(*(seen(d) for d in below[name] if d in below))
+
+    return {name: seen(name) for name in below}
+
+
+def declared(crate):
+    """The names that a crate declares: each with what it is, a field, a lemma or another definition."""
+    found = collections.defaultdict(set)
+    for p in antt(crate):
         inside = False
-        for line in text.split("\n"):
+        for line in read(p).split("\n"):
             if line and not line[0].isspace():
                 inside = bool(re.match(r"(pub )?(record|data) ", line))
             if not line.strip() or line.lstrip().startswith(SKIP):
                 continue
-            if inside and line[0].isspace():
-                if m := FIELD.match(line):
-                    found[m[1]].add((p, "field"))
-            elif not line[0].isspace() and (m := DECL.match(line)):
-                lemma = not re.search(r"abbrev|unfoldable|record|data", m["pre"])
-                found[m["name"]].add((p, "lemma" if lemma and re.match(r"\s*:", m["rest"]) else "other"))
-    for name in list(found):
-        if "-" not in name or name in made or name in library or MADE.match(name) and name.split("-")[0] in ("decreases", "invariant", "ghost", "returns"):
-            del found[name]
+            if line[0].isspace():
+                if m := INNER.match(line):
+                    found[m["name"]].add("field" if inside else "other" if "abbrev" in m["pre"] or "unfoldable" in m["pre"] else "lemma")
+            elif m := DECL.match(line):
+                lemma = not re.search(r"abbrev|unfoldable|record|data", m["pre"]) and "/specs/" not in p
+                found[m["name"]].add("lemma" if lemma and re.match(r"\s*:", m["rest"]) else "other")
     return found
 
 
-def table():
-    functions = collections.defaultdict(set)
-    for p in glob.glob("crates/*/src/**/*.rt", recursive=True):
-        functions[p.split("crates/")[1].split("/")[0]] |= set(re.findall(r"\bfn (\w+)", read(p)))
-    names = {}
-    for name, places in declared().items():
-        new = respelled(name, "camel" if name[0].isupper() else "lower")
-        crates = {p.split("crates/")[1].split("/")[0] for p, _ in places}
-        if any(k == "lemma" for _, k in places) and not any("specs/" in p for p, _ in places) and any(new in functions[c] for c in crates):
-            new += "_lem"
-        names[name] = OWN.get(name, new)
-    return names
+def respelled(name):
+    if name[0].isupper():
+        return "".join(p[:1].upper() + p[1:] for p in name.split("-"))
+    return name.replace("-", "_")
+
+
+class Names:
+    def __init__(self):
+        self.sees = crates()
+        self.library, self.made, self.aliases = set(), set(), set()
+        for p in antt() + code():
+            text = read(p)
+            for m in STD.finditer(text):
+                self.library |= {w.strip().split(" as ")[0] for w in m[1].split(",")}
+            self.made |= set(GOAL.findall(text))
+            self.aliases |= set(ALIAS.findall(text))
+        self.of = {crate: {n: k for n, k in declared(crate).items() if self.own(n)} for crate in self.sees}
+        self.functions = {crate: {f for p in code(crate) for f in re.findall(r"\bfn (\w+)", read(p))} for crate in self.sees}
+
+    def own(self, name):
+        return "-" in name and name not in self.made and name not in self.library and not name.startswith(MADE)
+
+    def seen_in(self, crate):
+        """The names that can stand in a crate: each with its new spelling and whether it is a field."""
+        names = {}
+        for other in sorted(self.sees[crate]):
+            for name, kinds in self.of[other].items():
+                new = OWN.get(name, respelled(name))
+                lemma = new + "_lem" if kinds == {"lemma"} and new in self.functions[other] else new
+                was = names.get(name, (new, lemma, False))
+                names[name] = (new, lemma if lemma != new else was[1], was[2] or "field" in kinds)
+        return names
+
+    def turned(self, crate, text):
+        names = self.seen_in(crate)
+        if not names:
+            return text
+        pattern = re.compile(r"(?<![\w'\-])(" + "|".join(re.escape(n) for n in sorted(names, key=len, reverse=True)) + r")(?![\w'\-])")
+
+        def one(m):
+            plain, lemma, field = names[m[1]]
+            before = text[: m.start()]
+            if before.endswith("."):
+                head = re.search(r"([\w'\-]+)\.$", before)
+                module = head and (head[1] in self.aliases or head[1][0].isupper())
+                return lemma if module else plain if field else m[1]
+            line = before[before.rfind("\n") + 1 :]
+            if line[:1].isspace() and not line.strip(" ") and re.match(r"\s*=", text[m.end() :]):
+                return plain
+            return lemma
+
+        return pattern.sub(one, text)
 
 
 def outside_strings(text, turn):
@@ -90,26 +131,27 @@ def outside_strings(text, turn):
 
 
 def main():
-    names = table()
-    pattern = re.compile(r"(?<![\w'\-])(" + "|".join(re.escape(n) for n in sorted(names, key=len, reverse=True)) + r")(?![\w'\-])")
-    together = collections.defaultdict(set)
-    for old, new in names.items():
-        together[new].add(old)
-    for p in antt():
-        for word in set(re.findall(r"(?<![\w'\-.])([\w']+)(?![\w'\-])", read(p))):
-            if word in together:
-                together[word].add(f"the word that stands in {p}")
-    for new, olds in sorted(together.items()):
-        if len(olds) > 1:
-            print("fall together:", new, "of", ", ".join(sorted(olds)))
-    for p in antt() + sorted(glob.glob("crates/*/src/**/*.rt", recursive=True) + glob.glob("crates/*/must-fail/*.edit")):
-        text = read(p)
-        turn = lambda t: pattern.sub(lambda m: names[m[1]], t)
-        new = outside_strings(text, turn) if p.endswith(".rt") else turn(text)
-        if new != text:
-            with open(p, "w", encoding="utf-8") as f:
-                f.write(new)
-    print(len(names), "names respelled")
+    names, count, changed = Names(), 0, 0
+    for crate in sorted(names.sees):
+        seen = names.seen_in(crate)
+        count += len(names.of[crate])
+        there = {w for p in antt(crate) for w in re.findall(r"(?<![\w'\-.])([\w']+)(?![\w'\-])", read(p))}
+        together = collections.defaultdict(set)
+        for old, (_, new, _) in seen.items():
+            together[new].add(old)
+        for new, olds in sorted(together.items()):
+            if len(olds) > 1 or new in there:
+                print(f"fall together in {crate}: {new}, of {', '.join(sorted(olds))}")
+    for crate in sorted(names.sees):
+        for p in antt(crate) + code(crate) + sorted(glob.glob(f"crates/{crate}/must-fail/*.edit")):
+            text = read(p)
+            turn = lambda part: names.turned(crate, part)
+            new = outside_strings(text, turn) if p.endswith(".rt") else turn(text)
+            if new != text:
+                changed += 1
+                with open(p, "w", encoding="utf-8") as f:
+                    f.write(new)
+    print(f"{count} names respelled, {changed} files changed")
 
 
 main()

@@ -10,7 +10,7 @@ use Rattle.tariff.specs.declared.fault.BaselineFault.{BaselineFault}
 use Rattle.tariff.specs.declared.fault.BaselineFault.TheVariants.{HourWithoutLoad}
 use Rattle.tariff.specs.declared.fault.HourGap.{HourGap}
 use Rattle.baseline.specs.Days.{day_loads, day_read, fault_or, hour_read}
-use Rattle.baseline.proofs.FirstSome.{none-counted, first_counted}
+use Rattle.baseline.proofs.FirstSome.{none_counted, first_counted}
 
 -- the fault that a gap becomes
 abbrev pub as_fault : HourGap → BaselineFault
@@ -50,7 +50,7 @@ gap_at t u d h = hour_fault u d h (t d h)
 pub day_fault_none : (t : Table) (u : Use) (d : ℕ) (loads : List ℕ) → Read t d 24 loads → day_fault t u d ≡ None
 unfolding day_fault gap_at
 day_fault_none t u d loads read =
-    none-counted (gap_at t u d) 24 (λ k l. no_gap u d k (t d k) (get_or loads k 0) (read k l))
+    none_counted (gap_at t u d) 24 (λ k l. no_gap u d k (t d k) (get_or loads k 0) (read k l))
 
 pub day_fault_some : (t : Table) (u : Use) (d h : ℕ) (loads : List ℕ) (x : HourGap) → h < 24 → Read t d h loads → hour_read u d h (t d h) ≡ Err x → day_fault t u d ≡ Some (as_fault x)
 unfolding day_fault gap_at

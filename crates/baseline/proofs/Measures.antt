@@ -24,20 +24,20 @@ use Rattle.baseline.specs.Days.{day_read, day_loads, fault_or}
 use Rattle.baseline.specs.Original.{original_of, original_read}
 use Rattle.baseline.specs.Measuring.{no_measured, hour_of, span_hours, event_of_hours, event_measured, loads_of, loads_read, adjusted_in, measured_in, event_from, MeasuredFromLoads, Bounded}
 use Rattle.baseline.proofs.TenDays.{fault_none, fault_some, read_whole, read_gap}
-use Rattle.baseline.proofs.Shown.{loads-at}
+use Rattle.baseline.proofs.Shown.{loads_at}
 
 -- ---- reading
 
 module _ (t : Table) (days : List ℕ) (d : ℕ) where
-  pub gap-before : (f : BaselineFault) → Err f ≡ original_read t days → Err f ≡ loads_read t days d
+  pub gap_before : (f : BaselineFault) → Err f ≡ original_read t days → Err f ≡ loads_read t days d
   unfolding original_read loads_read fault_over
-  gap-before f e =
+  gap_before f e =
       let some : comparison_fault t days ≡ Some f = fault_some (comparison_fault t days) (original_of t days) f e in
       ap (λ o. fault_or (or_else o (day_fault t EventDay d)) (loads_of t days d)) (sym some)
 
-  pub gap-own : (x : OriginalBaseline) (f : BaselineFault) → Ok x ≡ original_read t days → Err f ≡ day_read t EventDay d → Err f ≡ loads_read t days d
+  pub gap_own : (x : OriginalBaseline) (f : BaselineFault) → Ok x ≡ original_read t days → Err f ≡ day_read t EventDay d → Err f ≡ loads_read t days d
   unfolding original_read loads_read fault_over
-  gap-own x f e g =
+  gap_own x f e g =
       let none : comparison_fault t days ≡ None = (fault_none (comparison_fault t days) (original_of t days) x e).0 in
       let some : day_fault t EventDay d ≡ Some f = read_gap t EventDay d f g in
       ap (λ o. fault_or o (loads_of t days d)) (sym some) ∙ ap (λ o. fault_or (or_else o (day_fault t EventDay d)) (loads_of t days d)) (sym none)
@@ -60,44 +60,44 @@ map_alike f g k [] e = refl
 map_alike f g k (x ∷ xs) e = ap₂ ◌∷◌ e.0 (map_alike f g k xs e.1)
 
 module _ (t : Table) (days : List ℕ) (d : ℕ) where
-  bases-at : (h : ℕ) → h < 24 → get_or (map (base_of t days) (range_with_len 0 24)) h 0 ≡ base_of t days h
-  bases-at h l =
+  bases_at : (h : ℕ) → h < 24 → get_or (map (base_of t days) (range_with_len 0 24)) h 0 ≡ base_of t days h
+  bases_at h l =
       let long : length (range_with_len 0 24) ≡ 24 = length-range_with_len 0 24 in
       get_or-map (base_of t days) (range_with_len 0 24) h 0 0 (omega arith) ∙ ap (base_of t days) (get_or-range_with_len 0 24 h 0 l ∙ omega arith)
 
-  adjusted-shown : (n h : ℕ) → n < 24 → h < 24 → adjusted_in (loads_of t days d) n h ≡ adjusted_of t days d n h
+  adjusted_shown : (n h : ℕ) → n < 24 → h < 24 → adjusted_in (loads_of t days d) n h ≡ adjusted_of t days d n h
   unfolding adjusted_of
-  adjusted-shown n h i l =
-      let p = loads-at t d (n - 2) (omega arith) in
-      let q = loads-at t d (n - 1) (omega arith) in
-      let p₃ = bases-at (n - 2) (omega arith) in
-      let q₃ = bases-at (n - 1) (omega arith) in
-      let b = bases-at h l in
+  adjusted_shown n h i l =
+      let p = loads_at t d (n - 2) (omega arith) in
+      let q = loads_at t d (n - 1) (omega arith) in
+      let p₃ = bases_at (n - 2) (omega arith) in
+      let q₃ = bases_at (n - 1) (omega arith) in
+      let b = bases_at h l in
       cc
 
-  measured-shown : (n nominated number h : ℕ) → n < 24 → h < 24 → measured_in (loads_of t days d) n nominated (record { event = number; day = d; hour = h }) ≡ measured_of t days n nominated (record { event = number; day = d; hour = h })
+  measured_shown : (n nominated number h : ℕ) → n < 24 → h < 24 → measured_in (loads_of t days d) n nominated (record { event = number; day = d; hour = h }) ≡ measured_of t days n nominated (record { event = number; day = d; hour = h })
   unfolding reduction_of
-  measured-shown n nominated number h i l =
-      let b = bases-at h l in
-      let a = adjusted-shown n h i l in
-      let w = loads-at t d h l in
+  measured_shown n nominated number h i l =
+      let b = bases_at h l in
+      let a = adjusted_shown n h i l in
+      let w = loads_at t d h l in
       cc
 
 module _ (t : Table) (days : List ℕ) (e : EventSpan) where
-  hours-shown : (nominated : ℕ) → e.notice < 24 → e.start + e.length ≤ 24 → map (measured_in (loads_of t days e.day) e.notice nominated) (span_hours e) ≡ map (measured_of t days e.notice nominated) (span_hours e)
-  hours-shown nominated i l =
+  hours_shown : (nominated : ℕ) → e.notice < 24 → e.start + e.length ≤ 24 → map (measured_in (loads_of t days e.day) e.notice nominated) (span_hours e) ≡ map (measured_of t days e.notice nominated) (span_hours e)
+  hours_shown nominated i l =
       map_alike (measured_in (loads_of t days e.day) e.notice nominated) (measured_of t days e.notice nominated) (hour_of e) (range_with_len e.start e.length)
       (all_counting (λ h. measured_in (loads_of t days e.day) e.notice nominated (hour_of e h) ≡ measured_of t days e.notice nominated (hour_of e h)) e.start e.length
-      (λ h low high. measured-shown t days e.day e.notice nominated e.number h i (omega arith)))
+      (λ h low high. measured_shown t days e.day e.notice nominated e.number h i (omega arith)))
 
   -- what was read for an event tells what is measured in it
-  pub measured-told : e.notice < 24 → e.start + e.length ≤ 24 → (r : Result EventLoads BaselineFault) → r ≡ loads_read t days e.day → MeasuredFromLoads t days e r
+  pub measured_told : e.notice < 24 → e.start + e.length ≤ 24 → (r : Result EventLoads BaselineFault) → r ≡ loads_read t days e.day → MeasuredFromLoads t days e r
   unfolding loads_read event_measured event_from
-  measured-told i l (Ok x) q = λ nominated.
+  measured_told i l (Ok x) q = λ nominated.
       let w = fault_none (fault_over t days e.day) (loads_of t days e.day) x q in
-      ap Ok (ap (λ y. event_of_hours (map (measured_in y e.notice nominated) (span_hours e))) w.1 ∙ ap event_of_hours (hours-shown nominated i l))
+      ap Ok (ap (λ y. event_of_hours (map (measured_in y e.notice nominated) (span_hours e))) w.1 ∙ ap event_of_hours (hours_shown nominated i l))
       ∙ ap (λ o. fault_or o (event_of_hours (map (measured_of t days e.notice nominated) (span_hours e)))) (sym w.0)
-  measured-told i l (Err f) q = λ nominated.
+  measured_told i l (Err f) q = λ nominated.
       ap (λ o. fault_or o (event_of_hours (map (measured_of t days e.notice nominated) (span_hours e)))) (sym (fault_some (fault_over t days e.day) (loads_of t days e.day) f q))
 
 -- ---- an event's hours, one by one
@@ -111,29 +111,29 @@ map_map f g [] = refl
 map_map f g (x ∷ xs) = ap (λ zs. f (g x) ∷ zs) (map_map f g xs)
 
 module _ (x : EventLoads) (e : EventSpan) (nominated : ℕ) where
-  abbrev hour-at : ℕ → MeasuredHour
-  hour-at h = measured_in x e.notice nominated (hour_of e h)
+  abbrev hour_at : ℕ → MeasuredHour
+  hour_at h = measured_in x e.notice nominated (hour_of e h)
 
   -- the hours of an event so far
   unfoldable pub so_far : ℕ → List MeasuredHour
-  so_far k = filled no_measured 4 (map hour-at (range_with_len e.start k))
+  so_far k = filled no_measured 4 (map hour_at (range_with_len e.start k))
 
-  pub so-far-none : no_measured ∷ no_measured ∷ no_measured ∷ no_measured ∷ [] ≡ so_far 0
+  pub so_far_none : no_measured ∷ no_measured ∷ no_measured ∷ no_measured ∷ [] ≡ so_far 0
   unfolding so_far
-  so-far-none = refl
+  so_far_none = refl
 
   pub so_far_more : (k : ℕ) (y : MeasuredHour) → k < 4 → y ≡ measured_in x e.notice nominated (hour_of e (e.start + k)) → set (so_far k) k y ≡ so_far (k + 1)
   unfolding so_far
   so_far_more k y l q =
-      let xs : List MeasuredHour = map hour-at (range_with_len e.start k) in
-      filled_more no_measured 4 k xs y (length-map-range_with_len hour-at e.start k) l ∙ ap (λ z. filled no_measured 4 (xs ++ z ∷ [])) q ∙ ap (filled no_measured 4) (sym (map-range_with_len_more hour-at e.start k (e.start + k) refl))
+      let xs : List MeasuredHour = map hour_at (range_with_len e.start k) in
+      filled_more no_measured 4 k xs y (length-map-range_with_len hour_at e.start k) l ∙ ap (λ z. filled no_measured 4 (xs ++ z ∷ [])) q ∙ ap (filled no_measured 4) (sym (map-range_with_len_more hour_at e.start k (e.start + k) refl))
 
-  pub so-far-all : (hours : List MeasuredHour) → hours ≡ so_far e.length → record { hours = hours; count = e.length } ≡ event_from x e nominated
+  pub so_far_all : (hours : List MeasuredHour) → hours ≡ so_far e.length → record { hours = hours; count = e.length } ≡ event_from x e nominated
   unfolding so_far event_from
-  so-far-all hours q =
+  so_far_all hours q =
       let all : List MeasuredHour = map (measured_in x e.notice nominated) (span_hours e) in
-      let same : map hour-at (range_with_len e.start e.length) ≡ all = map_map (measured_in x e.notice nominated) (hour_of e) (range_with_len e.start e.length) in
-      let long : length all ≡ e.length = ap length (sym same) ∙ length-map-range_with_len hour-at e.start e.length in
+      let same : map hour_at (range_with_len e.start e.length) ≡ all = map_map (measured_in x e.notice nominated) (hour_of e) (range_with_len e.start e.length) in
+      let long : length all ≡ e.length = ap length (sym same) ∙ length-map-range_with_len hour_at e.start e.length in
       ap₂ (λ (hs : List MeasuredHour) (n : ℕ). record { hours = hs; count = n }) (q ∙ ap (filled no_measured 4) same) (sym long)
 
 pub bounds_of : (hours : List MeasuredHour) (n : ℕ) → n ≤ 4 → length hours ≡ 4 → All Fair hours → Bounded (record { hours = hours; count = n })

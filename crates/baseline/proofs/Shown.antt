@@ -20,29 +20,29 @@ use Rattle.baseline.proofs.TenDays.{fault_none, fault_some}
 use Rattle.baseline.specs.Sums.{afternoon_of, totals_of, load_at, sum_at, bases_of}
 
 module _ (t : Table) where
-  pub loads-at : (d h : ℕ) → h < 24 → get_or (day_loads t d) h 0 ≡ load t d h
+  pub loads_at : (d h : ℕ) → h < 24 → get_or (day_loads t d) h 0 ≡ load t d h
   unfolding day_loads
-  loads-at d h l =
+  loads_at d h l =
       let long : length (range_with_len 0 24) ≡ 24 = length-range_with_len 0 24 in
       get_or-map (load t d) (range_with_len 0 24) h 0 0 (omega arith) ∙ ap (load t d) (get_or-range_with_len 0 24 h 0 l ∙ omega arith)
 
-  afternoon-shown : (d : ℕ) → afternoon_of (day_loads t d) ≡ afternoon t d
+  afternoon_shown : (d : ℕ) → afternoon_of (day_loads t d) ≡ afternoon t d
   unfolding afternoon day_loads total
-  afternoon-shown d = refl
+  afternoon_shown d = refl
 
-  pub totals-shown : (days : List ℕ) → totals_of (map (day_loads t) days) ≡ map (afternoon t) days
+  pub totals_shown : (days : List ℕ) → totals_of (map (day_loads t) days) ≡ map (afternoon t) days
   unfolding totals_of
-  totals-shown [] = refl
-  totals-shown (d ∷ days) = ap₂ ◌∷◌ (afternoon-shown d) (totals-shown days)
+  totals_shown [] = refl
+  totals_shown (d ∷ days) = ap₂ ◌∷◌ (afternoon_shown d) (totals_shown days)
 
-  load-shown : (days : List ℕ) (h p : ℕ) → h < 24 → p < length days → load_at (map (day_loads t) days) h p ≡ load t (get_or days p 0) h
-  load-shown days h p l w = ap (λ loads. get_or loads h 0) (get_or-map (day_loads t) days p 0 [] w) ∙ loads-at (get_or days p 0) h l
+  load_shown : (days : List ℕ) (h p : ℕ) → h < 24 → p < length days → load_at (map (day_loads t) days) h p ≡ load t (get_or days p 0) h
+  load_shown days h p l w = ap (λ loads. get_or loads h 0) (get_or-map (day_loads t) days p 0 [] w) ∙ loads_at (get_or days p 0) h l
 
-  sum-shown : (days : List ℕ) (h : ℕ) → h < 24 → (places : List ℕ) → All (λ p. p < length days) places → sum_at (map (day_loads t) days) places h ≡ sum_by (λ d. load t d h) (map (λ p. get_or days p 0) places)
+  sum_shown : (days : List ℕ) (h : ℕ) → h < 24 → (places : List ℕ) → All (λ p. p < length days) places → sum_at (map (day_loads t) days) places h ≡ sum_by (λ d. load t d h) (map (λ p. get_or days p 0) places)
   unfolding sum_at
-  sum-shown days h l [] w = refl
-  sum-shown days h l (p ∷ places) w =
-      sum_by-cons (load_at (map (day_loads t) days) h) p places ∙ ap₂ ◌+◌ (load-shown days h p l w.0) (sum-shown days h l places w.1) ∙ sym (sum_by-cons (λ d. load t d h) (get_or days p 0) (map (λ q. get_or days q 0) places))
+  sum_shown days h l [] w = refl
+  sum_shown days h l (p ∷ places) w =
+      sum_by-cons (load_at (map (day_loads t) days) h) p places ∙ ap₂ ◌+◌ (load_shown days h p l w.0) (sum_shown days h l places w.1) ∙ sym (sum_by-cons (λ d. load t d h) (get_or days p 0) (map (λ q. get_or days q 0) places))
 
   -- the places of the three highest are places of days
   places_within : (days : List ℕ) → All (λ p. p < length days) (three_highest (map (afternoon t) days))
@@ -53,29 +53,29 @@ module _ (t : Table) where
       let f : ℕ → ℕ = total_at totals in
       All-take (λ p. p < length days) 3 (ranked f (range_with_len 0 (length totals))) (all_ranked (λ p. p < length days) f (range_with_len 0 (length totals)) (all_counting (λ p. p < length days) 0 (length totals) (λ k a b. omega arith)))
 
-  pub bases-shown : (days : List ℕ) → bases_of (map (day_loads t) days) (three_highest (map (afternoon t) days)) ≡ map (base_of t days) (range_with_len 0 24)
+  pub bases_shown : (days : List ℕ) → bases_of (map (day_loads t) days) (three_highest (map (afternoon t) days)) ≡ map (base_of t days) (range_with_len 0 24)
   unfolding bases_of base_of highest_of
-  bases-shown days =
+  bases_shown days =
       let places : List ℕ = three_highest (map (afternoon t) days) in
-      map_same (sum_at (map (day_loads t) days) places) (λ h. sum_by (λ d. load t d h) (map (λ p. get_or days p 0) places)) (range_with_len 0 24) (all_counting _ 0 24 (λ h a b. sum-shown days h (omega arith) places (places_within days)))
+      map_same (sum_at (map (day_loads t) days) places) (λ h. sum_by (λ d. load t d h) (map (λ p. get_or days p 0) places)) (range_with_len 0 24) (all_counting _ 0 24 (λ h a b. sum_shown days h (omega arith) places (places_within days)))
 
-  original-shown : (days : List ℕ) (loads : List (List ℕ)) → Ok loads ≡ days_read t days → Ok (original_from loads) ≡ original_read t days
+  original_shown : (days : List ℕ) (loads : List (List ℕ)) → Ok loads ≡ days_read t days → Ok (original_from loads) ≡ original_read t days
   unfolding days_read original_read
-  original-shown days loads e =
+  original_shown days loads e =
       let w = fault_none (comparison_fault t days) (map (day_loads t) days) loads e in
-      let totals : totals_of loads ≡ map (afternoon t) days = ap totals_of w.1 ∙ totals-shown days in
+      let totals : totals_of loads ≡ map (afternoon t) days = ap totals_of w.1 ∙ totals_shown days in
       let highest : three_highest (totals_of loads) ≡ three_highest (map (afternoon t) days) = ap three_highest totals in
-      let bases : bases_of loads (three_highest (totals_of loads)) ≡ map (base_of t days) (range_with_len 0 24) = ap₂ bases_of w.1 highest ∙ bases-shown days in
+      let bases : bases_of loads (three_highest (totals_of loads)) ≡ map (base_of t days) (range_with_len 0 24) = ap₂ bases_of w.1 highest ∙ bases_shown days in
       let none : comparison_fault t days ≡ None = w.0 in
       cc
 
-  original-gap : (days : List ℕ) (f : BaselineFault) → Err f ≡ days_read t days → Err f ≡ original_read t days
+  original_gap : (days : List ℕ) (f : BaselineFault) → Err f ≡ days_read t days → Err f ≡ original_read t days
   unfolding days_read original_read
-  original-gap days f e =
+  original_gap days f e =
       let some : comparison_fault t days ≡ Some f = fault_some (comparison_fault t days) (map (day_loads t) days) f e in
       ap (λ o. fault_or o (original_of t days)) (sym some)
 
   -- what was read of days tells their original baseline
-  pub original-told : (days : List ℕ) (r : Result (List (List ℕ)) BaselineFault) → r ≡ days_read t days → OriginalOfLoads t days r
-  original-told days (Ok loads) e = original-shown days loads e
-  original-told days (Err f) e = original-gap days f e
+  pub original_told : (days : List ℕ) (r : Result (List (List ℕ)) BaselineFault) → r ≡ days_read t days → OriginalOfLoads t days r
+  original_told days (Ok loads) e = original_shown days loads e
+  original_told days (Err f) e = original_gap days f e

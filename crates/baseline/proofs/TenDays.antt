@@ -9,7 +9,7 @@ use Rattle.tariff.specs.declared.fault.Use.{Use}
 use Rattle.tariff.specs.declared.fault.Use.TheVariants.{Comparison}
 use Rattle.tariff.specs.declared.fault.BaselineFault.{BaselineFault}
 use Rattle.baseline.specs.Days.{Small, fault_or, day_loads, day_read, days_read}
-use Rattle.baseline.proofs.FirstSome.{none-in-reverse, first-in-reverse}
+use Rattle.baseline.proofs.FirstSome.{none_in_reverse, first_in_reverse}
 
 -- what is known of one place that was read
 pub record Got (t : Table) (days : List ℕ) (read : List (List ℕ)) (k : ℕ) : Type 0 where
@@ -57,11 +57,11 @@ pub days_whole : (t : Table) (days : List ℕ) (read : List (List ℕ)) → leng
 unfolding days_read comparison_fault
 days_whole t days read long same got =
     let all : read ≡ map (day_loads t) days = ext_get_or [] read (map (day_loads t) days) (omega (arith, length-map days (day_loads t))) (λ k h. (got k (omega arith)).loads ∙ sym (get_or-map (day_loads t) days k 0 [] (omega arith))) in
-    let none : first_some (day_fault t Comparison) (reverse days) ≡ None = none-in-reverse (day_fault t Comparison) 0 days (λ k h. (got k (omega arith)).whole) in
+    let none : first_some (day_fault t Comparison) (reverse days) ≡ None = none_in_reverse (day_fault t Comparison) 0 days (λ k h. (got k (omega arith)).whole) in
     ap Ok all ∙ ap (λ o. fault_or o (map (day_loads t) days)) (sym none)
 
 pub days_gap : (t : Table) (days : List ℕ) (read : List (List ℕ)) (i : ℕ) (f : BaselineFault) → length days ≡ 10 → i < 10 → ((k : ℕ) → i < k → k < 10 → Got t days read k) → Err f ≡ day_read t Comparison (get_or days i 0) → Err f ≡ days_read t days
 unfolding days_read comparison_fault
 days_gap t days read i f long within got e =
-    let first : first_some (day_fault t Comparison) (reverse days) ≡ Some f = first-in-reverse (day_fault t Comparison) 0 days i f (omega arith) (λ k h l. (got k h (omega arith)).whole) (read_gap t Comparison (get_or days i 0) f e) in
+    let first : first_some (day_fault t Comparison) (reverse days) ≡ Some f = first_in_reverse (day_fault t Comparison) 0 days i f (omega arith) (λ k h l. (got k h (omega arith)).whole) (read_gap t Comparison (get_or days i 0) f e) in
     ap (λ o. fault_or o (map (day_loads t) days)) (sym first)

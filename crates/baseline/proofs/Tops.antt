@@ -5,7 +5,7 @@ use Rattle.std.proofs.lemmas.List.FromFn.{length-range_with_len}
 use Rattle.std.proofs.ByRecursion.{All-take, All-get_or}
 use Rattle.std.proofs.lemmas.List.{length-take-le}
 use Rattle.tariff.specs.Highest.{ranked, ranked_in, total_at, three_highest}
-use Rattle.tariff.proofs.Ranking.{all_counting, all_ranked, length_ranked, ranked_cons, take-ranked-in}
+use Rattle.tariff.proofs.Ranking.{all_counting, all_ranked, length_ranked, ranked_cons, take_ranked_in}
 
 -- the three highest of the n places from k on
 unfoldable pub top_from : (ℕ → ℕ) → ℕ → ℕ → List ℕ
@@ -25,19 +25,19 @@ top_within f k n m h l j i =
 pub top_more : (f : ℕ → ℕ) (k n : ℕ) → take 3 (ranked_in f k (top_from f (k + 1) n)) ≡ top_from f k (suc n)
 unfolding top_from
 top_more f k n =
-    sym (take-ranked-in f k 3 (ranked f (range_with_len (k + 1) n))) ∙ ap (take 3) (sym (ranked_cons f k (range_with_len (k + 1) n)))
+    sym (take_ranked_in f k 3 (ranked f (range_with_len (k + 1) n))) ∙ ap (take 3) (sym (ranked_cons f k (range_with_len (k + 1) n)))
 
 -- three places are their own three highest
 pub top_last : (f : ℕ → ℕ) → ranked f (7 ∷ 8 ∷ 9 ∷ []) ≡ top_from f 7 3
 unfolding top_from
-top_last f = sym (take-all-three (ranked f (7 ∷ 8 ∷ 9 ∷ [])) (length_ranked f (7 ∷ 8 ∷ 9 ∷ [])))
+top_last f = sym (take_all_three (ranked f (7 ∷ 8 ∷ 9 ∷ [])) (length_ranked f (7 ∷ 8 ∷ 9 ∷ [])))
   where
-    take-all-three : (xs : List ℕ) → length xs ≡ 3 → take 3 xs ≡ xs
-    take-all-three [] h = refl
-    take-all-three (a ∷ []) h = refl
-    take-all-three (a ∷ b ∷ []) h = refl
-    take-all-three (a ∷ b ∷ c ∷ []) h = refl
-    take-all-three (a ∷ b ∷ c ∷ d ∷ xs) h = absurd (omega arith)
+    take_all_three : (xs : List ℕ) → length xs ≡ 3 → take 3 xs ≡ xs
+    take_all_three [] h = refl
+    take_all_three (a ∷ []) h = refl
+    take_all_three (a ∷ b ∷ []) h = refl
+    take_all_three (a ∷ b ∷ c ∷ []) h = refl
+    take_all_three (a ∷ b ∷ c ∷ d ∷ xs) h = absurd (omega arith)
 
 pub top_all : (totals : List ℕ) → length totals ≡ 10 → top_from (total_at totals) 0 10 ≡ three_highest totals
 unfolding top_from three_highest

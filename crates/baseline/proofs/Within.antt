@@ -11,8 +11,8 @@ module _ (days : List ℕ) (i : ℕ) where
   pub within_more : i < length days → get_or days i 0 ≤ 75 → within_summer (drop i days) ≡ within_summer (drop (i + 1) days)
   within_more h l = next h ∙ ap (λ b. b && within_summer (drop (suc i) days)) (le-leb (get_or days i 0) 75 l) ∙ ap (λ k. within_summer (drop k days)) (sym (add-one i))
 
-  pub within-stops : i < length days → 75 < get_or days i 0 → within_summer (drop i days) ≡ false
-  within-stops h l = next h ∙ ap (λ b. b && within_summer (drop (suc i) days)) (lt-leb (get_or days i 0) 75 l)
+  pub within_stops : i < length days → 75 < get_or days i 0 → within_summer (drop i days) ≡ false
+  within_stops h l = next h ∙ ap (λ b. b && within_summer (drop (suc i) days)) (lt-leb (get_or days i 0) 75 l)
 
-  pub within-ends : length days ≤ i → within_summer (drop i days) ≡ true
-  within-ends h = ap within_summer (drop_all i days h)
+  pub within_ends : length days ≤ i → within_summer (drop i days) ≡ true
+  within_ends h = ap within_summer (drop_all i days h)

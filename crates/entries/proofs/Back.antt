@@ -8,7 +8,7 @@ use Rattle.meter.specs.declared.kind.TableKind.TheVariants.{Hourly, Quarter}
 use Rattle.tariff.specs.declared.call.Call.{Call}
 use Rattle.tariff.specs.declared.call.Call.TheVariants.{Enrol, Nominate, Announce, Revoke, Close}
 use Rattle.text.specs.Pieces.{line_end, hash, blank, unblanked, next_word}
-use Rattle.text.proofs.Written.{free_append, upto_free, spares_line_end, spares_hash, spares_blank, free-numeral, numeral-some, number-back, next_word_at, next_word_last}
+use Rattle.text.proofs.Written.{free_append, upto_free, spares_line_end, spares_hash, spares_blank, free_numeral, numeral_some, number_back, next_word_at, next_word_last}
 use Rattle.entries.specs.declared.entry.EntryFault.TheVariants.{TooFewWords}
 use Rattle.entries.specs.declared.word.Figure.{Figure}
 use Rattle.entries.specs.declared.word.Figure.TheVariants.{Number, Moment, Kind}
@@ -41,7 +41,7 @@ plain w some b h l = record { some = some; no_blank = without_by blank w b; no_h
 
 -- a numeral is a proper word
 numeral : (n : ℕ) → Number32 n → ProperWord (decimal n)
-numeral n h = record { some = numeral-some n h; no_blank = free-numeral n h blank spares_blank; no_hash = free-numeral n h hash spares_hash; no_end = free-numeral n h line_end spares_line_end }
+numeral n h = record { some = numeral_some n h; no_blank = free_numeral n h blank spares_blank; no_hash = free_numeral n h hash spares_hash; no_end = free_numeral n h line_end spares_line_end }
 
 -- words with a space between two of them lack what each of them lacks
 without_spaced : (p : ℕ → Bool) → p 32 ≡ false → (ws : List (List ℕ)) → All (Without p) ws → Without p (spaced ws)
@@ -59,7 +59,7 @@ word_taken w vs h = sym (ap (λ o. ok_or o TooFewWords) (next_spaced w vs h))
 
 figure_back : (f : Figure) (n : ℕ) → Number32 n → Ok n ≡ figure_of f (decimal n)
 unfolding figure_of
-figure_back f n h = sym (ap (figure_from f (decimal n)) (number-back n h))
+figure_back f n h = sym (ap (figure_from f (decimal n)) (number_back n h))
 
 figure_taken : (f : Figure) (n : ℕ) (vs : List (List ℕ)) → Number32 n → Ok (n, spaced vs) ≡ take_figure f (spaced (decimal n ∷ vs))
 unfolding take_figure

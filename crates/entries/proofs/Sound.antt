@@ -75,33 +75,33 @@ figure_small f w = from (number_of w) (number_small w)
 
 -- a part of a line lacks what the line lacks
 module _ (p : ℕ → Bool) where
-  upto-lacks : (q : ℕ → Bool) (bs : List ℕ) → Without p bs → Without p (upto q bs)
+  upto_lacks : (q : ℕ → Bool) (bs : List ℕ) → Without p bs → Without p (upto q bs)
   unfolding upto
-  upto-lacks q [] h = tt
-  upto-lacks q (b ∷ bs) h = elim (q b) as (λ v. Without p (cond v [] (b ∷ upto q bs))) [ true ↦ tt | false ↦ (h.0, upto-lacks q bs h.1) ]
+  upto_lacks q [] h = tt
+  upto_lacks q (b ∷ bs) h = elim (q b) as (λ v. Without p (cond v [] (b ∷ upto q bs))) [ true ↦ tt | false ↦ (h.0, upto_lacks q bs h.1) ]
 
-  beyond-lacks : (q : ℕ → Bool) (bs : List ℕ) → Without p bs → Without p (beyond q bs)
+  beyond_lacks : (q : ℕ → Bool) (bs : List ℕ) → Without p bs → Without p (beyond q bs)
   unfolding beyond
-  beyond-lacks q [] h = tt
-  beyond-lacks q (b ∷ bs) h = elim (q b) as (λ v. Without p (cond v bs (beyond q bs))) [ true ↦ h.1 | false ↦ beyond-lacks q bs h.1 ]
+  beyond_lacks q [] h = tt
+  beyond_lacks q (b ∷ bs) h = elim (q b) as (λ v. Without p (cond v bs (beyond q bs))) [ true ↦ h.1 | false ↦ beyond_lacks q bs h.1 ]
 
-  unblanked-lacks : (bs : List ℕ) → Without p bs → Without p (unblanked bs)
+  unblanked_lacks : (bs : List ℕ) → Without p bs → Without p (unblanked bs)
   unfolding unblanked
-  unblanked-lacks [] h = tt
-  unblanked-lacks (b ∷ bs) h = elim (blank b) as (λ v. Without p (cond v (unblanked bs) (b ∷ bs))) [ true ↦ unblanked-lacks bs h.1 | false ↦ h ]
+  unblanked_lacks [] h = tt
+  unblanked_lacks (b ∷ bs) h = elim (blank b) as (λ v. Without p (cond v (unblanked bs) (b ∷ bs))) [ true ↦ unblanked_lacks bs h.1 | false ↦ h ]
 
-  reverse-lacks : (bs : List ℕ) → Without p bs → Without p (reverse bs)
-  reverse-lacks [] h = tt
-  reverse-lacks (b ∷ bs) h = subst (Without p) (sym (reverse-append (b ∷ []) bs)) (free_append p (reverse bs) (b ∷ []) (reverse-lacks bs h.1) (h.0, tt))
+  reverse_lacks : (bs : List ℕ) → Without p bs → Without p (reverse bs)
+  reverse_lacks [] h = tt
+  reverse_lacks (b ∷ bs) h = subst (Without p) (sym (reverse-append (b ∷ []) bs)) (free_append p (reverse bs) (b ∷ []) (reverse_lacks bs h.1) (h.0, tt))
 
-  trimmed-lacks : (bs : List ℕ) → Without p bs → Without p (trimmed bs)
-  trimmed-lacks bs h = reverse-lacks _ (unblanked-lacks _ (reverse-lacks _ (unblanked-lacks bs h)))
+  trimmed_lacks : (bs : List ℕ) → Without p bs → Without p (trimmed bs)
+  trimmed_lacks bs h = reverse_lacks _ (unblanked_lacks _ (reverse_lacks _ (unblanked_lacks bs h)))
 
   -- what is cut off before the first stop has none
-  upto-stops : (bs : List ℕ) → Without p (upto p bs)
+  upto_stops : (bs : List ℕ) → Without p (upto p bs)
   unfolding upto
-  upto-stops [] = tt
-  upto-stops (b ∷ bs) = cond_both (p b) [] (b ∷ upto p bs) (Without p) (λ e. tt) (λ e. (e, upto-stops bs))
+  upto_stops [] = tt
+  upto_stops (b ∷ bs) = cond_both (p b) [] (b ∷ upto p bs) (Without p) (λ e. tt) (λ e. (e, upto_stops bs))
 
 -- a line that begins with no blank
 abbrev Starts : List ℕ → Type 0
@@ -146,11 +146,11 @@ starts_some (b ∷ bs) h some = rw h (omega arith)
 word_proper : (line : List ℕ) → Fit line → IfSome (next_word line) (λ p. ProperWord p.0 × Fit p.1)
 word_proper line fit =
     let l = unblanked line in
-    let h = unblanked-lacks hash line fit.0 in
-    let e = unblanked-lacks line_end line fit.1 in
+    let h = unblanked_lacks hash line fit.0 in
+    let e = unblanked_lacks line_end line fit.1 in
     cond_both (eqb (length l) 0) None (Some (upto blank l, beyond blank l)) (λ o. IfSome o (λ p. ProperWord p.0 × Fit p.1)) (λ _. tt) (λ long. (
-      record { some = starts_some l (starts_unblanked line) (positive (length l) (eqb-false (length l) 0 long)); no_blank = upto-stops blank l; no_hash = upto-lacks hash blank l h; no_end = upto-lacks line_end blank l e },
-      (beyond-lacks hash blank l h, beyond-lacks line_end blank l e),
+      record { some = starts_some l (starts_unblanked line) (positive (length l) (eqb-false (length l) 0 long)); no_blank = upto_stops blank l; no_hash = upto_lacks hash blank l h; no_end = upto_lacks line_end blank l e },
+      (beyond_lacks hash blank l h, beyond_lacks line_end blank l e),
     ))
   where
     positive : (n : ℕ) → (n ≡ 0 → ⊥) → 0 < n
@@ -186,7 +186,7 @@ last_figure_has f line fit = made_then FigureTaken Number32 _ _ (take_figure_has
 
 label_has : (line : List ℕ) → Fit line → IfOk (label_after line) Proper
 unfolding label_after
-label_has line fit = from (trimmed line) (trimmed_twice line) (trimmed-lacks hash line fit.0) (trimmed-lacks line_end line fit.1)
+label_has line fit = from (trimmed line) (trimmed_twice line) (trimmed_lacks hash line fit.0) (trimmed_lacks line_end line fit.1)
   where
     from : (t : List ℕ) → trimmed t ≡ t → Without hash t → Without line_end t → IfOk (label_saying t) Proper
     from [] e h l = tt
@@ -274,7 +274,7 @@ IfProper (Some a) = Proper a
 
 line_has : (line : List ℕ) → Without line_end line → IfOk (entry_of_line line) IfProper
 unfolding entry_of_line
-line_has line free = from (next_word l) (word_proper l (upto-stops hash line, upto-lacks line_end hash line free))
+line_has line free = from (next_word l) (word_proper l (upto_stops hash line, upto_lacks line_end hash line free))
   where
     l : List ℕ
     l = upto hash line

@@ -44,20 +44,20 @@ lines_to_all hours k h = ap (λ hs. filled no_hour 60 (map line_of hs)) (take_al
 
 module _ (nominations days : List ℕ) (hours : List PlacedHour) where
   -- the lines of weeks 1 to k, with those that are not used
-  unfoldable pub weeks-to : ℕ → List WeekLine
-  weeks-to k = filled no_week 10 (map (week_line_in nominations days hours) (range_with_len 1 k))
+  unfoldable pub weeks_to : ℕ → List WeekLine
+  weeks_to k = filled no_week 10 (map (week_line_in nominations days hours) (range_with_len 1 k))
 
-  pub weeks-to-none : replicate 10 no_week ≡ weeks-to 0
-  unfolding weeks-to
-  weeks-to-none = refl
+  pub weeks_to_none : replicate 10 no_week ≡ weeks_to 0
+  unfolding weeks_to
+  weeks_to_none = refl
 
-  pub weeks-to-more : (k : ℕ) (y : WeekLine) → k < 10 → y ≡ week_line_in nominations days hours (k + 1) → set (weeks-to k) k y ≡ weeks-to (k + 1)
-  unfolding weeks-to
-  weeks-to-more k y l e =
+  pub weeks_to_more : (k : ℕ) (y : WeekLine) → k < 10 → y ≡ week_line_in nominations days hours (k + 1) → set (weeks_to k) k y ≡ weeks_to (k + 1)
+  unfolding weeks_to
+  weeks_to_more k y l e =
       let f : ℕ → WeekLine = week_line_in nominations days hours in
       let xs : List WeekLine = map f (range_with_len 1 k) in
       filled_more no_week 10 k xs y (length-map-range_with_len f 1 k) l ∙ ap (λ z. filled no_week 10 (xs ++ z ∷ [])) e ∙ ap (filled no_week 10) (sym (map-range_with_len_more f 1 k (k + 1) (omega arith)))
 
-  pub weeks-to-all : (last : ℕ) → weeks-to last ≡ filled no_week 10 (week_lines_of nominations days last hours)
-  unfolding weeks-to week_lines_of
-  weeks-to-all last = refl
+  pub weeks_to_all : (last : ℕ) → weeks_to last ≡ filled no_week 10 (week_lines_of nominations days last hours)
+  unfolding weeks_to week_lines_of
+  weeks_to_all last = refl

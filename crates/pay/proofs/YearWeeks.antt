@@ -24,24 +24,24 @@ module _ (year w : ℕ) where
       let ms : List MeasuredHour = filter (λ m. in_week year w m.day) (measured_list hours) in
       kept_one p ks ms (kept_same hours h.1) (eqb p.week w) ∙ ap (λ n. cond (eqb n w) (p.measured ∷ ms) ms) h.0
 
-  week-same : (hours : List PlacedHour) → All (λ p. p.week ≡ week_of year p.measured.day) hours → measured_in_week w hours ≡ hours_in_week year w (measured_list hours)
+  week_same : (hours : List PlacedHour) → All (λ p. p.week ≡ week_of year p.measured.day) hours → measured_in_week w hours ≡ hours_in_week year w (measured_list hours)
   unfolding measured_in_week hours_in_week
-  week-same hours h = kept_same hours h
+  week_same hours h = kept_same hours h
 
 module _ (year : ℕ) (x : Site) (hours : List PlacedHour) (nominations days : List ℕ) (last : ℕ) (of : OfYear year x hours nominations days last) where
   line_same : (w : ℕ) → 1 ≤ w → w ≤ last → week_line_in nominations days hours w ≡ week_line year x (measured_list hours) w
   line_same w l h =
       ap (λ n. week_line_of n (measured_in_week w hours) (get_or days (w - 1) 0)) (ap (λ (ns : List ℕ). get_or ns (w - 1) 0) of.of_site)
-      ∙ ap (λ ms. week_line_of (nomination_for x w) ms (get_or days (w - 1) 0)) (week-same year w hours of.in_weeks)
+      ∙ ap (λ ms. week_line_of (nomination_for x w) ms (get_or days (w - 1) 0)) (week_same year w hours of.in_weeks)
       ∙ ap (week_line_of (nomination_for x w) (hours_in_week year w (measured_list hours))) (of.of_weeks w l h)
 
-  weeks-same : week_lines_of nominations days last hours ≡ week_lines year x (measured_list hours)
+  weeks_same : week_lines_of nominations days last hours ≡ week_lines year x (measured_list hours)
   unfolding week_lines_of week_lines
-  weeks-same =
+  weeks_same =
       map_same (week_line_in nominations days hours) (week_line year x (measured_list hours)) (range_with_len 1 last)
       (all_counting (λ w. week_line_in nominations days hours w ≡ week_line year x (measured_list hours) w) 1 last (λ w l h. line_same w l (omega arith)))
       ∙ ap (λ n. map (week_line year x (measured_list hours)) (range_with_len 1 n)) of.to_last
 
-  pub year-paid : statement_from hours nominations days last ≡ paid_for year x (measured_list hours)
+  pub year_paid : statement_from hours nominations days last ≡ paid_for year x (measured_list hours)
   unfolding statement_from paid_for hour_lines_of
-  year-paid = ap (λ ws. written (map priced (measured_list hours)) ws (incentive_of (map priced (measured_list hours)) ws) (charged_of (map priced (measured_list hours)))) weeks-same
+  year_paid = ap (λ ws. written (map priced (measured_list hours)) ws (incentive_of (map priced (measured_list hours)) ws) (charged_of (map priced (measured_list hours)))) weeks_same

@@ -65,12 +65,12 @@ standing_few : (days : List Day) (n : ℕ) → standing_before days n ≤ n
 standing_few days zero = omega (arith, standing_none days)
 standing_few days (suc n) =
     let step = ap (standing_before days) (sym (add-one n)) ∙ standing_more days n in
-    let most = cond-most (stands (day_in days n)) in
+    let most = cond_most (stands (day_in days n)) in
     omega (arith, standing_few days n)
   where
-    cond-most : (b : Bool) → cond b 1 0 ≤ 1
-    cond-most true = omega arith
-    cond-most false = omega arith
+    cond_most : (b : Bool) → cond b 1 0 ≤ 1
+    cond_most true = omega arith
+    cond_most false = omega arith
 
 pub all_placed : (s : model.Season) (n : ℕ) → Sound s → n ≤ 76 → All (Placed s) (event_hours_before s.days n)
 all_placed s n sound most =

@@ -17,18 +17,18 @@ module _ (cs : List Call) (i : ℕ) where
   run_more s t end c a lt e f h =
       ap (λ x. run x (drop (i + 1) cs)) (next_from s t (get_or cs i c) a e f) ∙ sym (at_drop_more (run s) cs i c lt) ∙ h
 
-  pub run-all : (s end : Season) → length cs ≤ i → run s (drop i cs) ≡ end → s ≡ end
+  pub run_all : (s end : Season) → length cs ≤ i → run s (drop i cs) ≡ end → s ≡ end
   unfolding run
-  run-all s end past h = sym (at_drop_all (run s) cs i past) ∙ h
+  run_all s end past h = sym (at_drop_all (run s) cs i past) ∙ h
 
-  pub answers-more : (s t : Season) (xs all : List (Result Answer SeasonRefusal)) (c : Call) (a : Result Answer SeasonRefusal) → i < length cs → a ≡ answer s (get_or cs i c) → t ≡ after s (get_or cs i c) a → xs ++ answers s (drop i cs) ≡ all → (xs ++ a ∷ []) ++ answers t (drop (i + 1) cs) ≡ all
+  pub answers_more : (s t : Season) (xs all : List (Result Answer SeasonRefusal)) (c : Call) (a : Result Answer SeasonRefusal) → i < length cs → a ≡ answer s (get_or cs i c) → t ≡ after s (get_or cs i c) a → xs ++ answers s (drop i cs) ≡ all → (xs ++ a ∷ []) ++ answers t (drop (i + 1) cs) ≡ all
   unfolding answers
-  answers-more s t xs all c a lt e f h =
+  answers_more s t xs all c a lt e f h =
       append_assoc xs (a ∷ []) (answers t (drop (i + 1) cs))
       ∙ ap (λ y. xs ++ (y ∷ answers t (drop (i + 1) cs))) e
       ∙ ap (λ u. xs ++ (answer s (get_or cs i c) ∷ answers u (drop (i + 1) cs))) (next_from s t (get_or cs i c) a e f)
       ∙ ap (λ ys. xs ++ ys) (sym (at_drop_more (answers s) cs i c lt)) ∙ h
 
-  pub answers-all : (s : Season) (xs all : List (Result Answer SeasonRefusal)) → length cs ≤ i → xs ++ answers s (drop i cs) ≡ all → xs ≡ all
+  pub answers_all : (s : Season) (xs all : List (Result Answer SeasonRefusal)) → length cs ≤ i → xs ++ answers s (drop i cs) ≡ all → xs ≡ all
   unfolding answers
-  answers-all s xs all past h = sym (append-nil xs) ∙ ap (λ ys. xs ++ ys) (sym (at_drop_all (answers s) cs i past)) ∙ h
+  answers_all s xs all past h = sym (append-nil xs) ∙ ap (λ ys. xs ++ ys) (sym (at_drop_all (answers s) cs i past)) ∙ h

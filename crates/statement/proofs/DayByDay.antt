@@ -54,64 +54,64 @@ pub quiet_day : (s : Season) (x : Site) (t : Table) (d : ℕ) (held : Day) (list
     number ≤ d + 1 →
     All (InYear s.year) (listed list) →
     DayMeasured s x t d list list number
-quiet_day s x t d held list number e none zero-hours no-hours en low weeks =
+quiet_day s x t d held list number e none zero-hours no_hours en low weeks =
     record {
       answered = cond-false (standing s d) _ _ (ap stands e ∙ none);
       number = let zero_more : ◌≡◌ {A = ℕ} (cond {A = ℕ} (stands held) 1 0) 0 = cond-false {A = ℕ} (stands held) 1 0 none in omega (arith, next_number_lem s d held e);
       low = omega arith;
       counts = omega (arith, ap day_hours e);
-      hours = sym (ap (λ hs. measured_of_list list ++ map (measured s x t) hs) (ap (hours_on (event_number s.days d) d) e ∙ no-hours (event_number s.days d)) ∙ append-nil (measured_of_list list));
+      hours = sym (ap (λ hs. measured_of_list list ++ map (measured s x t) hs) (ap (hours_on (event_number s.days d) d) e ∙ no_hours (event_number s.days d)) ∙ append-nil (measured_of_list list));
       weeks = weeks;
     }
 
 -- the event of a day that stands
 module _ (s : Season) (x : Site) (t : Table) (d : ℕ) (e : Event) (number : ℕ) (held : day_at s d ≡ Standing e) (en : number ≡ event_number s.days d) where
-  hours-of-day : List MeasuredHour
-  hours-of-day = map (measured s x t) (hours_on number d (Standing e))
+  hours_of_day : List MeasuredHour
+  hours_of_day = map (measured s x t) (hours_on number d (Standing e))
 
-  length-hours : length hours-of-day ≡ e.length
-  unfolding hours-of-day
-  length-hours = length-map (hours_on number d (Standing e)) (measured s x t) ∙ length-map (range_with_len e.start e.length) (event_hour number d) ∙ length-range_with_len e.start e.length
+  length_hours : length hours_of_day ≡ e.length
+  unfolding hours_of_day
+  length_hours = length-map (hours_on number d (Standing e)) (measured s x t) ∙ length-map (range_with_len e.start e.length) (event_hour number d) ∙ length-range_with_len e.start e.length
 
-  all-days : (hs : List ℕ) → All (λ m. m.day ≡ d) (map (measured s x t) (map (event_hour number d) hs))
-  all-days [] = tt
-  all-days (h ∷ hs) = (refl, all-days hs)
+  all_days : (hs : List ℕ) → All (λ m. m.day ≡ d) (map (measured s x t) (map (event_hour number d) hs))
+  all_days [] = tt
+  all_days (h ∷ hs) = (refl, all_days hs)
 
   -- an event that stopped nothing
-  pub measured-whole : (m : MeasuredEvent) → Ok m ≡ standing_measured s x t number d e → (event_fault s t d ≡ None) × (m ≡ event_of_hours (map (measured s x t) (hours_on number d (Standing e))))
+  pub measured_whole : (m : MeasuredEvent) → Ok m ≡ standing_measured s x t number d e → (event_fault s t d ≡ None) × (m ≡ event_of_hours (map (measured s x t) (hours_on number d (Standing e))))
   unfolding standing_measured
-  measured-whole m p = numbered_none number (event_fault s t d) _ m p
+  measured_whole m p = numbered_none number (event_fault s t d) _ m p
 
   pub count_of : (m : MeasuredEvent) → Ok m ≡ standing_measured s x t number d e → m.count ≡ day_hours (day_at s d)
-  unfolding hours-of-day
-  count_of m p = ap (λ v. v.count) (measured-whole m p).1 ∙ length-hours ∙ sym (ap day_hours held)
+  unfolding hours_of_day
+  count_of m p = ap (λ v. v.count) (measured_whole m p).1 ∙ length_hours ∙ sym (ap day_hours held)
 
   get_d_any : (P : MeasuredHour → Type 0) (xs : List MeasuredHour) (k : ℕ) (o : MeasuredHour) → P o → All P xs → P (get_or xs k o)
   get_d_any P [] k o h a = h
   get_d_any P (y ∷ ys) zero o h a = a.0
   get_d_any P (y ∷ ys) (suc k) o h a = get_d_any P ys k o h a.1
 
-  all-unused : (P : MeasuredHour → Type 0) (o : MeasuredHour) (n : ℕ) → P o → All P (replicate n o)
-  all-unused P o zero h = tt
-  all-unused P o (suc n) h = (h, all-unused P o n h)
+  all_unused : (P : MeasuredHour → Type 0) (o : MeasuredHour) (n : ℕ) → P o → All P (replicate n o)
+  all_unused P o zero h = tt
+  all_unused P o (suc n) h = (h, all_unused P o n h)
 
-  pub days-within : (m : MeasuredEvent) → Ok m ≡ standing_measured s x t number d e → d ≤ 75 → (k : ℕ) → (get_or m.hours k no_measured).day ≤ 75
-  days-within m p l k =
+  pub days_within : (m : MeasuredEvent) → Ok m ≡ standing_measured s x t number d e → d ≤ 75 → (k : ℕ) → (get_or m.hours k no_measured).day ≤ 75
+  days_within m p l k =
       let P : MeasuredHour → Type 0 = λ v. v.day ≤ 75 in
       let hs : List MeasuredHour = map (measured s x t) (map (event_hour number d) (range_with_len e.start e.length)) in
-      let within : All P hs = All-weaker (λ v. v.day ≡ d) P (λ v same. omega arith) hs (all-days (range_with_len e.start e.length)) in
-      let whole : All P (filled no_measured 4 hs) = All-append P hs (replicate (4 - length hs) no_measured) within (all-unused P no_measured (4 - length hs) (omega arith)) in
-      subst (λ (v : MeasuredEvent). (get_or v.hours k no_measured).day ≤ 75) (sym (measured-whole m p).1) (get_d_any P (filled no_measured 4 hs) k no_measured (omega arith) whole)
+      let within : All P hs = All-weaker (λ v. v.day ≡ d) P (λ v same. omega arith) hs (all_days (range_with_len e.start e.length)) in
+      let whole : All P (filled no_measured 4 hs) = All-append P hs (replicate (4 - length hs) no_measured) within (all_unused P no_measured (4 - length hs) (omega arith)) in
+      subst (λ (v : MeasuredEvent). (get_or v.hours k no_measured).day ≤ 75) (sym (measured_whole m p).1) (get_d_any P (filled no_measured 4 hs) k no_measured (omega arith) whole)
 
   -- what its hours leave
-  pub standing-day : (m : MeasuredEvent) (before after : HourList) → Ok m ≡ standing_measured s x t number d e →
+  pub standing_day : (m : MeasuredEvent) (before after : HourList) → Ok m ≡ standing_measured s x t number d e →
       number ≤ d + 1 →
       length (listed after) ≡ length (listed before) + m.count →
       measured_of_list after ≡ measured_of_list before ++ take m.count m.hours →
       All (InYear s.year) (listed after) →
       DayMeasured s x t d before after (number + 1)
-  standing-day m before after p low counts hours weeks =
-      let whole = measured-whole m p in
+  standing_day m before after p low counts hours weeks =
+      let whole = measured_whole m p in
       let hs : List MeasuredHour = map (measured s x t) (hours_on number d (Standing e)) in
       let taken : take m.count m.hours ≡ hs = ap (λ v. take v.count v.hours) whole.1 ∙ hours_back hs in
       let same : hs ≡ map (measured s x t) (hours_on (event_number s.days d) d (day_at s d)) = ap₂ (λ n day. map (measured s x t) (hours_on n d day)) en (sym held) in
@@ -125,8 +125,8 @@ module _ (s : Season) (x : Site) (t : Table) (d : ℕ) (e : Event) (number : ℕ
       }
 
   -- an event that stops the statement
-  pub standing-fault : (f : EventFault) → Err f ≡ standing_measured s x t number d e → day_refusal s t d ≡ Some (EventWithoutBaseline f.event f.fault)
+  pub standing_fault : (f : EventFault) → Err f ≡ standing_measured s x t number d e → day_refusal s t d ≡ Some (EventWithoutBaseline f.event f.fault)
   unfolding standing_measured
-  standing-fault f p =
+  standing_fault f p =
       let w = numbered_some number (event_fault s t d) _ f p in
       cond-true (standing s d) _ _ (ap stands held) ∙ ap (numbered (event_number s.days d)) w.0 ∙ ap (λ n. Some (EventWithoutBaseline n f.fault)) (sym en ∙ sym w.1)

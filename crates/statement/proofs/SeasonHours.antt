@@ -10,7 +10,7 @@ use Rattle.tariff.proofs.EventHours.{hours_more, event_hours_more}
 use Rattle.tariff.specs.declared.season.Day.{Day}
 use Rattle.tariff.specs.declared.season.Site.{Site}
 use Rattle.tariff.specs.declared.statement.StatementRefusal.{StatementRefusal}
-use Rattle.baseline.proofs.FirstSome.{none-counted, first_counted}
+use Rattle.baseline.proofs.FirstSome.{none_counted, first_counted}
 use Rattle.pay.specs.Listed.{listed}
 use Rattle.pay.specs.declared.list.HourList.{HourList}
 use Rattle.statement.specs.Measured.{measured_of_list, DayMeasured}
@@ -29,17 +29,17 @@ room_for_day s d n l full e =
 
 module _ (s : Season) (x : Site) (t : Table) where
   -- one day more
-  pub counts-more : (d next : ℕ) (before after : HourList) → DayMeasured s x t d before after next → length (listed before) ≡ hours_before s.days d → length (listed after) ≡ hours_before s.days (d + 1)
-  counts-more d next before after m e = omega (arith, m.counts, hours_more s.days d)
+  pub counts_more : (d next : ℕ) (before after : HourList) → DayMeasured s x t d before after next → length (listed before) ≡ hours_before s.days d → length (listed after) ≡ hours_before s.days (d + 1)
+  counts_more d next before after m e = omega (arith, m.counts, hours_more s.days d)
 
-  pub hours-again : (d next : ℕ) (before after : HourList) → DayMeasured s x t d before after next → measured_of_list before ≡ map (measured s x t) (event_hours_before s.days d) → measured_of_list after ≡ map (measured s x t) (event_hours_before s.days (d + 1))
-  hours-again d next before after m e =
+  pub hours_again : (d next : ℕ) (before after : HourList) → DayMeasured s x t d before after next → measured_of_list before ≡ map (measured s x t) (event_hours_before s.days d) → measured_of_list after ≡ map (measured s x t) (event_hours_before s.days (d + 1))
+  hours_again d next before after m e =
       m.hours ∙ ap (λ hs. hs ++ map (measured s x t) (hours_on (event_number s.days d) d (day_at s d))) e ∙ sym (map-append (measured s x t) (event_hours_before s.days d) (hours_on (event_number s.days d) d (day_at s d))) ∙ ap (map (measured s x t)) (sym (event_hours_more s.days d))
 
 -- no day stops it, or the first that does
 pub no_fault : (s : Season) (t : Table) → ((k : ℕ) → k < 76 → day_refusal s t k ≡ None) → season_fault s t ≡ None
 unfolding season_fault
-no_fault s t h = none-counted (day_refusal s t) 76 h
+no_fault s t h = none_counted (day_refusal s t) 76 h
 
 pub first_fault : (s : Season) (t : Table) (d : ℕ) (r : StatementRefusal) → d < 76 → ((k : ℕ) → k < d → day_refusal s t k ≡ None) → day_refusal s t d ≡ Some r → season_fault s t ≡ Some r
 unfolding season_fault

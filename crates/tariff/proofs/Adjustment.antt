@@ -11,14 +11,14 @@ unfolding moved_within
 moved_is b up down = grind (arith, nat_tests)
 
 module _ (b up down n : ℕ) (is : n + min (down - up) (2 * b) ≡ 10 * b + min (up - down) (2 * b)) where
-  moved-held : pos n ≡ pos (10 * b) +ℤ held b (pos up -ℤ pos down)
-  moved-held = omega (arith, ints, clamps)
+  moved_held : pos n ≡ pos (10 * b) +ℤ held b (pos up -ℤ pos down)
+  moved_held = omega (arith, ints, clamps)
 
-  moved-upper : pos (2 * b) ≤ℤ (pos up -ℤ pos down) → n ≡ 12 * b
-  moved-upper h = omega (arith, ints)
+  moved_upper : pos (2 * b) ≤ℤ (pos up -ℤ pos down) → n ≡ 12 * b
+  moved_upper h = omega (arith, ints)
 
-  moved-lower : (pos up -ℤ pos down) ≤ℤ neg_ℤ (pos (2 * b)) → n ≡ 8 * b
-  moved-lower h = omega (arith, ints)
+  moved_lower : (pos up -ℤ pos down) ≤ℤ neg_ℤ (pos (2 * b)) → n ≡ 8 * b
+  moved_lower h = omega (arith, ints)
 
   moved_inside : neg_ℤ (pos (2 * b)) ≤ℤ (pos up -ℤ pos down) → (pos up -ℤ pos down) ≤ℤ pos (2 * b) → pos n ≡ pos (10 * b) +ℤ (pos up -ℤ pos down)
   moved_inside l h = omega (arith, ints)
@@ -33,9 +33,9 @@ the_adjustment_is_held p q p₃ q₃ b =
     let n : ℕ = moved_within b up down in
     let is = moved_is b up down in
     record {
-      sum = moved-held b up down n is;
-      upper = moved-upper b up down n is;
-      lower = moved-lower b up down n is;
+      sum = moved_held b up down n is;
+      upper = moved_upper b up down n is;
+      lower = moved_lower b up down n is;
       within = moved_inside b up down n is;
       none = moved_none b up down n is;
     }

@@ -4,7 +4,7 @@ use Rattle.std.specs.List.{range_with_len, AllByRecursion as All}
 use Rattle.std.proofs.lemmas.List.FromFn.{length-range_with_len}
 use Rattle.std.proofs.lemmas.Bool.{cases_eq, leb-true, leb-false}
 use Rattle.tariff.specs.Highest.{total_at, ranked, ranked_in, three_highest, GoesBefore, Highest}
-use Rattle.tariff.proofs.Ranking.{In, all_in, in_counting, all_counting, in_ranked, all_ranked, all-ranked-in, by_way, length_ranked}
+use Rattle.tariff.proofs.Ranking.{In, all_in, in_counting, all_counting, in_ranked, all_ranked, all_ranked_in, by_way, length_ranked}
 
 three_cases : (P : ℕ → Type 0) → P 0 → P 1 → P 2 → (k : ℕ) → k < 3 → P k
 three_cases P a b c zero h = a
@@ -30,13 +30,13 @@ module _ (totals : List ℕ) where
   apart a b (inr h) e = omega arith
 
   -- each goes before all that follow it
-  abbrev In-order : List ℕ → Type 0
-  In-order [] = Unit {0}
-  In-order (x ∷ xs) = All (GoesBefore totals x) xs × In-order xs
+  abbrev InOrder : List ℕ → Type 0
+  InOrder [] = Unit {0}
+  InOrder (x ∷ xs) = All (GoesBefore totals x) xs × InOrder xs
 
   -- a lower place that is no less goes before
-  lower-first : (x y : ℕ) → f y ≤ f x → x < y → GoesBefore totals x y
-  lower-first x y h l = elim (cases_eq (f y) (f x)) [ inl e ↦ inr (e, l) | inr e ↦ inl (omega arith) ]
+  lower_first : (x y : ℕ) → f y ≤ f x → x < y → GoesBefore totals x y
+  lower_first x y h l = elim (cases_eq (f y) (f x)) [ inl e ↦ inr (e, l) | inr e ↦ inl (omega arith) ]
 
   no_less : (y z : ℕ) → GoesBefore totals y z → f z ≤ f y
   no_less y z (inl h) = omega arith
@@ -46,24 +46,24 @@ module _ (totals : List ℕ) where
   all_after x y [] h l b = tt
   all_after x y (z ∷ zs) h l b =
       let n : f z ≤ f y = no_less y z b.0 in
-      (lower-first x z (omega arith) l.0, all_after x y zs h l.1 b.1)
+      (lower_first x z (omega arith) l.0, all_after x y zs h l.1 b.1)
 
-  in-order-in : (x : ℕ) (ys : List ℕ) → All (λ y. x < y) ys → In-order ys → In-order (ranked_in f x ys)
+  in_order_in : (x : ℕ) (ys : List ℕ) → All (λ y. x < y) ys → InOrder ys → InOrder (ranked_in f x ys)
   unfolding ranked_in
-  in-order-in x [] l o = (tt, tt)
-  in-order-in x (y ∷ ys) l o =
-      by_way f x In-order y ys
-      (λ e. let h : f y ≤ f x = leb-true (f y) (f x) e in ((lower-first x y h l.0, all_after x y ys h l.1 o.0), o))
-      (λ e. let h : f x < f y = leb-false (f y) (f x) e in (all-ranked-in f x (GoesBefore totals y) ys (inl h) o.0, in-order-in x ys l.1 o.1))
+  in_order_in x [] l o = (tt, tt)
+  in_order_in x (y ∷ ys) l o =
+      by_way f x InOrder y ys
+      (λ e. let h : f y ≤ f x = leb-true (f y) (f x) e in ((lower_first x y h l.0, all_after x y ys h l.1 o.0), o))
+      (λ e. let h : f x < f y = leb-false (f y) (f x) e in (all_ranked_in f x (GoesBefore totals y) ys (inl h) o.0, in_order_in x ys l.1 o.1))
 
-  ranked-in-order : (a n : ℕ) → In-order (ranked f (range_with_len a n))
+  ranked_in_order : (a n : ℕ) → InOrder (ranked f (range_with_len a n))
   unfolding ranked
-  ranked-in-order a zero = tt
-  ranked-in-order a (suc n) =
-      in-order-in a (ranked f (range_with_len (a + 1) n)) (all_ranked (λ y. a < y) f (range_with_len (a + 1) n) (all_counting (λ y. a < y) (a + 1) n (λ k l m. omega arith))) (ranked-in-order (a + 1) n)
+  ranked_in_order a zero = tt
+  ranked_in_order a (suc n) =
+      in_order_in a (ranked f (range_with_len (a + 1) n)) (all_ranked (λ y. a < y) f (range_with_len (a + 1) n) (all_counting (λ y. a < y) (a + 1) n (λ k l m. omega arith))) (ranked_in_order (a + 1) n)
 
   -- the first three of a list in order that holds every place
-  first_three : (l : List ℕ) → 3 ≤ length l → In-order l → All (λ p. p < length totals) l → ((p : ℕ) → p < length totals → In p l) → Highest totals (take 3 l)
+  first_three : (l : List ℕ) → 3 ≤ length l → InOrder l → All (λ p. p < length totals) l → ((p : ℕ) → p < length totals → In p l) → Highest totals (take 3 l)
   first_three [] long o w every = let z : ⊥ = omega arith in absurd z
   first_three (a ∷ []) long o w every = let z : ⊥ = omega arith in absurd z
   first_three (a ∷ b ∷ []) long o w every = let z : ⊥ = omega arith in absurd z
@@ -99,6 +99,6 @@ three_highest_are_highest_lem totals long =
     let g : ℕ → ℕ = total_at totals in
     let many : length (ranked g (range_with_len 0 n)) ≡ length (range_with_len 0 n) = length_ranked g (range_with_len 0 n) in
     let count : length (range_with_len 0 n) ≡ n = length-range_with_len 0 n in
-    first_three totals (ranked g (range_with_len 0 n)) (omega arith) (ranked-in-order totals 0 n)
+    first_three totals (ranked g (range_with_len 0 n)) (omega arith) (ranked_in_order totals 0 n)
     (all_ranked (λ p. p < n) g (range_with_len 0 n) (all_counting (λ p. p < n) 0 n (λ k l m. omega arith)))
     (λ p l. in_ranked g p (range_with_len 0 n) (in_counting p 0 n (omega arith) (omega arith)))

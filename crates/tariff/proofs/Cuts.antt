@@ -15,7 +15,7 @@ use Rattle.tariff.specs.Tables.{Table, load, load_of}
 use Rattle.tariff.specs.declared.reading.Reading.{Reading}
 use Rattle.tariff.specs.declared.reading.Reading.TheVariants.{Load, NoLoad}
 use Rattle.tariff.specs.declared.season.Site.{Site}
-use Rattle.tariff.proofs.Baselines.{comparison_free, base-of-same, adjusted-of-same}
+use Rattle.tariff.proofs.Baselines.{comparison_free, base_of_same, adjusted_of_same}
 use Rattle.tariff.proofs.EventHours.{all_event_hours, in_event_is}
 use Rattle.tariff.proofs.Pointwise.{each_map}
 use Rattle.tariff.proofs.Runs.{standing_fit}
@@ -27,8 +27,8 @@ load_no_more (NoLoad f) (Load w) a h = absurd a
 load_no_more (NoLoad f) (NoLoad g) a h = le_refl _
 
 module _ (s : Season) (x : Site) (t u : Table) (deeper : Deeper s t u) (sound : Sound s) where
-  free-same : (k h : ℕ) → k < 76 → h < 24 → standing s k ≡ false → t k h ≡ u k h
-  free-same k h l m e = deeper.else_same k h l m (in_event_is s k h ∙ grind (arith, nat_tests))
+  free_same : (k h : ℕ) → k < 76 → h < 24 → standing s k ≡ false → t k h ≡ u k h
+  free_same k h l m e = deeper.else_same k h l m (in_event_is s k h ∙ grind (arith, nat_tests))
 
   before_same : (d h : ℕ) → standing s d ≡ true → h < (event_of (day_at s d)).start → t d h ≡ u d h
   before_same d h e l =
@@ -37,45 +37,45 @@ module _ (s : Season) (x : Site) (t u : Table) (deeper : Deeper s t u) (sound : 
 
   -- of an hour of an event
   module _ (d h : ℕ) (e : standing s d ≡ true) (from : (event_of (day_at s d)).start ≤ h) (to : h < (event_of (day_at s d)).start + (event_of (day_at s d)).length) where
-    event-base : base_of t (comparison_days s d) h ≡ base_of u (comparison_days s d) h
-    event-base =
+    event_base : base_of t (comparison_days s d) h ≡ base_of u (comparison_days s d) h
+    event_base =
         let f = standing_fit s d sound e in
-        base-of-same s t u free-same (comparison_days s d) (comparison_free s d (omega arith)) h (omega arith)
+        base_of_same s t u free_same (comparison_days s d) (comparison_free s d (omega arith)) h (omega arith)
 
-    event-adjusted : adjusted_of t (comparison_days s d) d (notice_hour s d) h ≡ adjusted_of u (comparison_days s d) d (notice_hour s d) h
-    event-adjusted =
+    event_adjusted : adjusted_of t (comparison_days s d) d (notice_hour s d) h ≡ adjusted_of u (comparison_days s d) d (notice_hour s d) h
+    event_adjusted =
         let f = standing_fit s d sound e in
-        adjusted-of-same s t u free-same (comparison_days s d) (comparison_free s d (omega arith)) d (notice_hour s d) h (omega arith) (omega arith)
+        adjusted_of_same s t u free_same (comparison_days s d) (comparison_free s d (omega arith)) d (notice_hour s d) h (omega arith) (omega arith)
         (before_same d (notice_hour s d - 2) e (omega arith)) (before_same d (notice_hour s d - 1) e (omega arith))
 
-    event-load : load u d h ≤ load t d h
-    event-load =
+    event_load : load u d h ≤ load t d h
+    event_load =
         let f = standing_fit s d sound e in
         let l : d < 76 = omega arith in
         let m : h < 24 = omega arith in
         load_no_more (t d h) (u d h) (deeper.gaps d h l m) (deeper.cut d h l m (in_event_is s d h ∙ grind (arith, nat_tests)))
 
-    event-reduction : reduction_of t (comparison_days s d) d (notice_hour s d) h ≤ reduction_of u (comparison_days s d) d (notice_hour s d) h
+    event_reduction : reduction_of t (comparison_days s d) d (notice_hour s d) h ≤ reduction_of u (comparison_days s d) d (notice_hour s d) h
     unfolding reduction_of
-    event-reduction = omega (arith, event-adjusted, event-load)
+    event_reduction = omega (arith, event_adjusted, event_load)
 
-    reduced-no-less : ReducedNoLess (measured s x t (event_hour (event_number s.days d) d h)) (measured s x u (event_hour (event_number s.days d) d h))
-    reduced-no-less =
-        let r = event-reduction in
+    reduced_no_less : ReducedNoLess (measured s x t (event_hour (event_number s.days d) d h)) (measured s x u (event_hour (event_number s.days d) d h))
+    reduced_no_less =
+        let r = event_reduction in
         record {
           event = refl;
           day = refl;
           hour = refl;
-          base = sym event-base;
-          adjusted = sym event-adjusted;
+          base = sym event_base;
+          adjusted = sym event_adjusted;
           reduction = r;
           shortfall = omega arith;
         }
 
-  pub all-reduced-no-less : AllZip ReducedNoLess (measured_hours s x t) (measured_hours s x u)
-  all-reduced-no-less =
+  pub all_reduced_no_less : AllZip ReducedNoLess (measured_hours s x t) (measured_hours s x u)
+  all_reduced_no_less =
       each_map ReducedNoLess (measured s x t) (measured s x u) (season_event_hours s)
-      (all_event_hours _ s.days 76 (λ d h _ e from to. reduced-no-less d h e from to))
+      (all_event_hours _ s.days 76 (λ d h _ e from to. reduced_no_less d h e from to))
 
 pub deeper_cuts_reduce_no_less_lem : DeeperCutsReduceNoLess
-deeper_cuts_reduce_no_less_lem s sound x t u deeper = all-reduced-no-less s x t u deeper sound
+deeper_cuts_reduce_no_less_lem s sound x t u deeper = all_reduced_no_less s x t u deeper sound

@@ -27,25 +27,25 @@ hour_alike p d h (NoLoad f) (Load w) a = absurd a
 hour_alike p d h (NoLoad f) (NoLoad g) a = ap (λ k. hour_fault p d h (NoLoad k)) a
 
 module _ (s : Season) (t u : Table) (gaps : SameGaps t u) where
-  day-alike : (p : Use) (d : ℕ) → d < 76 → day_fault t p d ≡ day_fault u p d
+  day_alike : (p : Use) (d : ℕ) → d < 76 → day_fault t p d ≡ day_fault u p d
   unfolding day_fault
-  day-alike p d l = first_same _ _ (range_with_len 0 24) (all_counting _ 0 24 (λ h _ m. hour_alike p d h (t d h) (u d h) (gaps d h l (omega arith))))
+  day_alike p d l = first_same _ _ (range_with_len 0 24) (all_counting _ 0 24 (λ h _ m. hour_alike p d h (t d h) (u d h) (gaps d h l (omega arith))))
 
-  comparison-alike : (d : ℕ) → d < 76 → comparison_fault t (comparison_days s d) ≡ comparison_fault u (comparison_days s d)
+  comparison_alike : (d : ℕ) → d < 76 → comparison_fault t (comparison_days s d) ≡ comparison_fault u (comparison_days s d)
   unfolding comparison_fault
-  comparison-alike d l =
+  comparison_alike d l =
       first_same (day_fault t Comparison) (day_fault u Comparison) (reverse (comparison_days s d))
-      (all_reversed _ _ (All-weaker (Free s) _ (λ k f. day-alike Comparison k f.0) _ (comparison_free s d l)))
+      (all_reversed _ _ (All-weaker (Free s) _ (λ k f. day_alike Comparison k f.0) _ (comparison_free s d l)))
 
-  event-alike : (d : ℕ) → d < 76 → event_fault s t d ≡ event_fault s u d
+  event_alike : (d : ℕ) → d < 76 → event_fault s t d ≡ event_fault s u d
   unfolding event_fault fault_over
-  event-alike d l = cc (comparison-alike d l, day-alike EventDay d l)
+  event_alike d l = cc (comparison_alike d l, day_alike EventDay d l)
 
-  pub season-alike : season_fault s t ≡ season_fault s u
+  pub season_alike : season_fault s t ≡ season_fault s u
   unfolding season_fault
-  season-alike =
+  season_alike =
       first_same (day_refusal s t) (day_refusal s u) (range_with_len 0 76)
-      (all_counting _ 0 76 (λ d _ m. ap (λ f. cond (standing s d) (numbered (event_number s.days d) f) None) (event-alike d (omega arith))))
+      (all_counting _ 0 76 (λ d _ m. ap (λ f. cond (standing s d) (numbered (event_number s.days d) f) None) (event_alike d (omega arith))))
 
 both_if : (P : Statement → Statement → Type 0) (b : Bool) (e : StatementRefusal) (x y : Outcome) → Both P x y → Both P (cond b (Err e) x) (cond b (Err e) y)
 both_if P true e x y h = refl
@@ -62,5 +62,5 @@ both_answered P s i t u gaps h =
     let y : Statement = statement_of s (site_at s i) u in
     let n : ℕ = length (season_event_hours s) in
     let z : Both P (refused_or (season_fault s t) (x, n)) (refused_or (season_fault s u) (y, n)) =
-    rw (season-alike s t u gaps) (both_refused_or P (season_fault s u) n x y h) in
+    rw (season_alike s t u gaps) (both_refused_or P (season_fault s u) n x y h) in
     both_if P (not s.closed) _ _ _ (both_if P (not (has_site s i)) _ _ _ z)

@@ -69,10 +69,10 @@ module _ (P : Season → History → Type 0)
   after_call s h c p =
       of_reply (λ r. P (after s c r) (h ++ record { call = c; reply = r } ∷ [])) s c (λ r. at-refused s h c r p) (λ a t. at-accepted s h c a p t)
 
-  pub after-calls : (s : Season) (h : History) (cs : List Call) → P s h → P (run s cs) (h ++ history s cs)
+  pub after_calls : (s : Season) (h : History) (cs : List Call) → P s h → P (run s cs) (h ++ history s cs)
   unfolding run answers paired
-  after-calls s h [] p = rw append-nil p
-  after-calls s h (c ∷ cs) p = rw append_assoc at (after-calls (next s c) (h ++ entry s c ∷ []) cs (after_call s h c p))
+  after_calls s h [] p = rw append-nil p
+  after_calls s h (c ∷ cs) p = rw append_assoc at (after_calls (next s c) (h ++ entry s c ∷ []) cs (after_call s h c p))
 
 -- ---- one entry of a history
 

@@ -16,8 +16,8 @@ use Rattle.tariff.specs.declared.call.Call.TheVariants.{Enrol, Nominate, Announc
 use Rattle.tariff.specs.declared.call.Answer.{Answer}
 use Rattle.tariff.specs.declared.call.Answer.TheVariants.{Revoked as RevokedHours}
 use Rattle.tariff.specs.declared.call.SeasonRefusal.{SeasonRefusal}
-use Rattle.tariff.proofs.HistoryCalls.{Passed, Answered, refused, after-calls}
-use Rattle.tariff.proofs.HistoryTotals.{day_length, one_if, announced_over, standing_over, hours_over, over-set, over_none, day_none}
+use Rattle.tariff.proofs.HistoryCalls.{Passed, Answered, refused, after_calls}
+use Rattle.tariff.proofs.HistoryTotals.{day_length, one_if, announced_over, standing_over, hours_over, over_set, over_none, day_none}
 
 -- ---- whether a day has been announced in a history
 
@@ -54,29 +54,29 @@ announced_since m start len a before between = from false before
 -- ---- one entry more
 
 module _ (h : History) (e : Entry) where
-  pub announcements-push : accepted_announcements (h ++ e ∷ []) ≡ accepted_announcements h + cond (accepted_announcement e) 1 0
+  pub announcements_push : accepted_announcements (h ++ e ∷ []) ≡ accepted_announcements h + cond (accepted_announcement e) 1 0
   unfolding accepted_announcements
-  announcements-push = sum_by_push (λ x. cond (accepted_announcement x) 1 0) h e
+  announcements_push = sum_by_push (λ x. cond (accepted_announcement x) 1 0) h e
 
-  revocations-push : accepted_revocations (h ++ e ∷ []) ≡ accepted_revocations h + cond (accepted_revocation e) 1 0
+  revocations_push : accepted_revocations (h ++ e ∷ []) ≡ accepted_revocations h + cond (accepted_revocation e) 1 0
   unfolding accepted_revocations
-  revocations-push = sum_by_push (λ x. cond (accepted_revocation x) 1 0) h e
+  revocations_push = sum_by_push (λ x. cond (accepted_revocation x) 1 0) h e
 
-  announced-hours-push : announced_hours (h ++ e ∷ []) ≡ announced_hours h + cond (accepted_announcement e) (length_asked e.call) 0
+  announced_hours_push : announced_hours (h ++ e ∷ []) ≡ announced_hours h + cond (accepted_announcement e) (length_asked e.call) 0
   unfolding announced_hours
-  announced-hours-push = sum_by_push (λ x. cond (accepted_announcement x) (length_asked x.call) 0) h e
+  announced_hours_push = sum_by_push (λ x. cond (accepted_announcement x) (length_asked x.call) 0) h e
 
-  revoked-hours-push : revoked_hours (h ++ e ∷ []) ≡ revoked_hours h + cond (accepted_revocation e) (length_replied e.reply) 0
+  revoked_hours_push : revoked_hours (h ++ e ∷ []) ≡ revoked_hours h + cond (accepted_revocation e) (length_replied e.reply) 0
   unfolding revoked_hours
-  revoked-hours-push = sum_by_push (λ x. cond (accepted_revocation x) (length_replied x.reply) 0) h e
+  revoked_hours_push = sum_by_push (λ x. cond (accepted_revocation x) (length_replied x.reply) 0) h e
 
-  last-moment-push : last_moment (h ++ e ∷ []) ≡ cond (accepted e.reply) (clock_after (last_moment h) e.call) (last_moment h)
+  last_moment_push : last_moment (h ++ e ∷ []) ≡ cond (accepted e.reply) (clock_after (last_moment h) e.call) (last_moment h)
   unfolding last_moment
-  last-moment-push = fold_push (λ clock x. cond (accepted x.reply) (clock_after clock x.call) clock) 0 h e
+  last_moment_push = fold_push (λ clock x. cond (accepted x.reply) (clock_after clock x.call) clock) 0 h e
 
-  announced-in-push : (d : ℕ) → announced_in d (h ++ e ∷ []) ≡ announced_with d (announced_in d h) e
+  announced_in_push : (d : ℕ) → announced_in d (h ++ e ∷ []) ≡ announced_with d (announced_in d h) e
   unfolding announced_in
-  announced-in-push d = fold_push (announced_with d) false h e
+  announced_in_push d = fold_push (announced_with d) false h e
 
 -- ---- the clock and the days that agree with a history
 
@@ -111,18 +111,18 @@ same_days : (clock : ℕ) (days : List Day) (h : History) (e : Entry) → DaysAg
     → ((m : ℕ) → cond (accepted e.reply) (clock_after m e.call) m ≡ m)
     → ((d : ℕ) (b : Bool) → announced_with d b e ≡ b)
     → DaysAgree clock days (h ++ e ∷ [])
-same_days clock days h e g no-announcement no-revocation same-clock same_day =
-    let a : accepted_announcements (h ++ e ∷ []) ≡ accepted_announcements h + 0 = rw no-announcement at (announcements-push h e) in
-    let r : accepted_revocations (h ++ e ∷ []) ≡ accepted_revocations h + 0 = rw no-revocation at (revocations-push h e) in
-    let b : announced_hours (h ++ e ∷ []) ≡ announced_hours h + 0 = rw no-announcement at (announced-hours-push h e) in
-    let q : revoked_hours (h ++ e ∷ []) ≡ revoked_hours h + 0 = rw no-revocation at (revoked-hours-push h e) in
+same_days clock days h e g no-announcement no-revocation same_clock same_day =
+    let a : accepted_announcements (h ++ e ∷ []) ≡ accepted_announcements h + 0 = rw no-announcement at (announcements_push h e) in
+    let r : accepted_revocations (h ++ e ∷ []) ≡ accepted_revocations h + 0 = rw no-revocation at (revocations_push h e) in
+    let b : announced_hours (h ++ e ∷ []) ≡ announced_hours h + 0 = rw no-announcement at (announced_hours_push h e) in
+    let q : revoked_hours (h ++ e ∷ []) ≡ revoked_hours h + 0 = rw no-revocation at (revoked_hours_push h e) in
     record {
       summer = g.summer;
       counted = omega arith;
       events = omega arith;
       hours = omega arith;
-      time = g.time ∙ sym (same-clock (last_moment h)) ∙ sym (last-moment-push h e);
-      told = λ d. g.told d ∙ sym (same_day d (announced_in d h)) ∙ sym (announced-in-push h e d);
+      time = g.time ∙ sym (same_clock (last_moment h)) ∙ sym (last_moment_push h e);
+      told = λ d. g.told d ∙ sym (same_day d (announced_in d h)) ∙ sym (announced_in_push h e d);
       late = λ l. g.late (omega arith);
     }
 
@@ -150,13 +150,13 @@ announced_days s h m start len a g p =
     let u = unannounced (day_at s (day_of m)) fresh in
     record {
       summer = length-set s.days (day_of m) day ∙ g.summer;
-      counted = omega (arith, announced_over new 76, announced_over s.days 76, over-set (one_if announced) s.days (day_of m) 76 day l inside, u.0, announcements-push h e, g.counted);
-      events = omega (arith, standing_over new 76, standing_over s.days 76, over-set (one_if stands) s.days (day_of m) 76 day l inside, u.1, announcements-push h e, revocations-push h e, g.events);
-      hours = omega (arith, hours_over new 76, hours_over s.days 76, over-set day_length s.days (day_of m) 76 day l inside, u.2, announced-hours-push h e, revoked-hours-push h e, g.hours);
-      time = sym (last-moment-push h e);
+      counted = omega (arith, announced_over new 76, announced_over s.days 76, over_set (one_if announced) s.days (day_of m) 76 day l inside, u.0, announcements_push h e, g.counted);
+      events = omega (arith, standing_over new 76, standing_over s.days 76, over_set (one_if stands) s.days (day_of m) 76 day l inside, u.1, announcements_push h e, revocations_push h e, g.events);
+      hours = omega (arith, hours_over new 76, hours_over s.days 76, over_set day_length s.days (day_of m) 76 day l inside, u.2, announced_hours_push h e, revoked_hours_push h e, g.hours);
+      time = sym (last_moment_push h e);
       told = λ d. elim (cases_eq d (day_of m)) [
-        | inl q ↦ rw (announced-in-push h e d, q, get_or-set_same s.days (day_of m) day NoEvent l, eq-eqb (day_of m) (day_of m) refl)
-        | inr q ↦ rw (announced-in-push h e d, get_or-set_other s.days (day_of m) d day NoEvent q, ne_eqb (day_of m) d (λ p'. q (sym p'))) (g.told d)
+        | inl q ↦ rw (announced_in_push h e d, q, get_or-set_same s.days (day_of m) day NoEvent l, eq-eqb (day_of m) (day_of m) refl)
+        | inr q ↦ rw (announced_in_push h e d, get_or-set_other s.days (day_of m) d day NoEvent q, ne_eqb (day_of m) d (λ p'. q (sym p'))) (g.told d)
       ];
       late = λ _. from-june-15;
     }
@@ -175,15 +175,15 @@ revoked_days s h m g p =
     let u = still_stands old stood in
     record {
       summer = length-set s.days (day_of m) day ∙ g.summer;
-      counted = omega (arith, announced_over new 76, announced_over s.days 76, over-set (one_if announced) s.days (day_of m) 76 day l inside, u.1, announcements-push h e, g.counted);
-      events = omega (arith, standing_over new 76, standing_over s.days 76, over-set (one_if stands) s.days (day_of m) 76 day l inside, u.2, announcements-push h e, revocations-push h e, g.events);
-      hours = omega (arith, hours_over new 76, hours_over s.days 76, over-set day_length s.days (day_of m) 76 day l inside, u.3, announced-hours-push h e, revoked-hours-push h e, g.hours);
-      time = sym (last-moment-push h e);
+      counted = omega (arith, announced_over new 76, announced_over s.days 76, over_set (one_if announced) s.days (day_of m) 76 day l inside, u.1, announcements_push h e, g.counted);
+      events = omega (arith, standing_over new 76, standing_over s.days 76, over_set (one_if stands) s.days (day_of m) 76 day l inside, u.2, announcements_push h e, revocations_push h e, g.events);
+      hours = omega (arith, hours_over new 76, hours_over s.days 76, over_set day_length s.days (day_of m) 76 day l inside, u.3, announced_hours_push h e, revoked_hours_push h e, g.hours);
+      time = sym (last_moment_push h e);
       told = λ d. elim (cases_eq d (day_of m)) [
-        | inl q ↦ rw (announced-in-push h e d, q, get_or-set_same s.days (day_of m) day NoEvent l) (sym u.0 ∙ g.told (day_of m))
-        | inr q ↦ rw (announced-in-push h e d, get_or-set_other s.days (day_of m) d day NoEvent q) (g.told d)
+        | inl q ↦ rw (announced_in_push h e d, q, get_or-set_same s.days (day_of m) day NoEvent l) (sym u.0 ∙ g.told (day_of m))
+        | inr q ↦ rw (announced_in_push h e d, get_or-set_other s.days (day_of m) d day NoEvent q) (g.told d)
       ];
-      late = λ once. omega (arith, g.late (omega (arith, announcements-push h e)));
+      late = λ once. omega (arith, g.late (omega (arith, announcements_push h e)));
     }
 
 -- ---- any call
@@ -199,4 +199,4 @@ accepted_days s h (Revoke m) a g t = rw t.1 (revoked_days s h m g t.0)
 accepted_days s h Close a g t = same_days s.clock s.days h (taken Close a) g refl refl (λ _. refl) (λ _ _. refl)
 
 pub days_agree : (old : Season) (year : ℕ) (calls : List Call) → SeasonDaysAgree (run (opened old year) calls) (history (opened old year) calls)
-days_agree old year calls = after-calls SeasonDaysAgree refused_days accepted_days (opened old year) [] calls (opened_days old year)
+days_agree old year calls = after_calls SeasonDaysAgree refused_days accepted_days (opened old year) [] calls (opened_days old year)

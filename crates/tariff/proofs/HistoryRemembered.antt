@@ -13,10 +13,10 @@ use Rattle.tariff.specs.declared.call.Call.{Call}
 use Rattle.tariff.specs.declared.call.Call.TheVariants.{Enrol, Announce, Close}
 use Rattle.tariff.specs.declared.call.Answer.{Answer}
 use Rattle.tariff.specs.declared.call.Answer.TheVariants.{Site as SiteNumber, Announced, Closed}
-use Rattle.tariff.proofs.HistoryCalls.{Passed, Answered, answered, entry, after_call, after-calls, Split, split}
-use Rattle.tariff.proofs.HistoryDays.{SeasonDaysAgree, announced_in, announced_since, announcements-push, refused_days, accepted_days, days_agree}
-use Rattle.tariff.proofs.HistorySites.{SeasonSitesAgree, highest-push, refused_sites, accepted_sites, sites_agree}
-use Rattle.tariff.proofs.HistoryThird.{announcement_figure, no_higher, Held, refused-held, accepted-held}
+use Rattle.tariff.proofs.HistoryCalls.{Passed, Answered, answered, entry, after_call, after_calls, Split, split}
+use Rattle.tariff.proofs.HistoryDays.{SeasonDaysAgree, announced_in, announced_since, announcements_push, refused_days, accepted_days, days_agree}
+use Rattle.tariff.proofs.HistorySites.{SeasonSitesAgree, highest_push, refused_sites, accepted_sites, sites_agree}
+use Rattle.tariff.proofs.HistoryThird.{announcement_figure, no_higher, Held, refused_held, accepted_held}
 
 -- the season that accepted a call of a history agrees with the history before that call, and gave the answer
 record Accepting (before : History) (c : Call) (a : Answer) : Type 0 where
@@ -84,16 +84,16 @@ module _ (old : Season) (year : ℕ) (calls : List Call) where
       let top : ℕ = highest_figure site before in
       let days : SeasonDaysAgree s before = rw inner.before_is at (days_agree old year inner.first) in
       let sites : SeasonSitesAgree s before = rw inner.before_is at (sites_agree old year inner.first) in
-      let three : accepted_announcements h ≡ accepted_announcements before + 1 = rw is-third at (announcements-push before third) in
+      let three : accepted_announcements h ≡ accepted_announcements before + 1 = rw is-third at (announcements_push before third) in
       let at-third : Held site top (next s third.call) h = (
         rw inner.entry_is at (after_call SeasonDaysAgree refused_days accepted_days s before third.call days),
         rw inner.entry_is at (after_call SeasonSitesAgree refused_sites accepted_sites s before third.call sites),
         omega (arith, three, two),
-        omega (arith, highest-push before third site, announcement_figure site third is-third),
+        omega (arith, highest_push before third site, announcement_figure site third is-third),
       ) in
       let last : Season = run (next s third.call) inner.rest in
       let so_far : History = h ++ history (next s third.call) inner.rest in
-      let at_last : Held site top last so_far = after-calls (Held site top) (refused-held site top) (accepted-held site top) (next s third.call) h inner.rest at-third in
+      let at_last : Held site top last so_far = after_calls (Held site top) (refused_held site top) (accepted_held site top) (next s third.call) h inner.rest at-third in
       let own : entry last e.call ≡ e = ap (λ (u : Season). entry u e.call) inner.ends ∙ outer.entry_is in
       omega (arith, no_higher last so_far e.call site at_last.0 at_last.1 at_last.2, ap (figure_for site) own, at_last.3)
 

@@ -18,26 +18,26 @@ use Rattle.tariff.specs.declared.call.Call.TheVariants.{Enrol, Nominate, Announc
 use Rattle.tariff.specs.declared.call.Answer.{Answer}
 use Rattle.tariff.specs.declared.call.Answer.TheVariants.{Site as SiteNumber, Week, Announced, Revoked as RevokedHours, Closed}
 use Rattle.tariff.specs.declared.call.SeasonRefusal.{SeasonRefusal}
-use Rattle.tariff.proofs.HistoryCalls.{Passed, Answered, refused, after-calls}
+use Rattle.tariff.proofs.HistoryCalls.{Passed, Answered, refused, after_calls}
 
 -- ---- one entry more
 
 module _ (h : History) (e : Entry) where
-  enrolments-push : accepted_enrolments (h ++ e ∷ []) ≡ accepted_enrolments h + cond (accepted_enrolment e) 1 0
+  enrolments_push : accepted_enrolments (h ++ e ∷ []) ≡ accepted_enrolments h + cond (accepted_enrolment e) 1 0
   unfolding accepted_enrolments
-  enrolments-push = sum_by_push (λ x. cond (accepted_enrolment x) 1 0) h e
+  enrolments_push = sum_by_push (λ x. cond (accepted_enrolment x) 1 0) h e
 
-  pub highest-push : (i : ℕ) → highest_figure i (h ++ e ∷ []) ≡ max (highest_figure i h) (figure_for i e)
+  pub highest_push : (i : ℕ) → highest_figure i (h ++ e ∷ []) ≡ max (highest_figure i h) (figure_for i e)
   unfolding highest_figure
-  highest-push i = fold_push (λ highest x. max highest (figure_for i x)) 0 h e
+  highest_push i = fold_push (λ highest x. max highest (figure_for i x)) 0 h e
 
-  enrolled-push : (i : ℕ) → enrolled_figure i (h ++ e ∷ []) ≡ cond (enrolment_of i e) (figure_named e.call) (enrolled_figure i h)
+  enrolled_push : (i : ℕ) → enrolled_figure i (h ++ e ∷ []) ≡ cond (enrolment_of i e) (figure_named e.call) (enrolled_figure i h)
   unfolding enrolled_figure
-  enrolled-push i = fold_push (λ kw x. cond (enrolment_of i x) (figure_named x.call) kw) 0 h e
+  enrolled_push i = fold_push (λ kw x. cond (enrolment_of i x) (figure_named x.call) kw) 0 h e
 
-  nominated-push : (i w other : ℕ) → last_nominated i w other (h ++ e ∷ []) ≡ cond (accepted_nomination_by i w e) (figure_named e.call) (last_nominated i w other h)
+  nominated_push : (i w other : ℕ) → last_nominated i w other (h ++ e ∷ []) ≡ cond (accepted_nomination_by i w e) (figure_named e.call) (last_nominated i w other h)
   unfolding last_nominated
-  nominated-push i w other = fold_push (λ kw x. cond (accepted_nomination_by i w x) (figure_named x.call) kw) other h e
+  nominated_push i w other = fold_push (λ kw x. cond (accepted_nomination_by i w x) (figure_named x.call) kw) other h e
 
 -- ---- the sites that agree with a history
 
@@ -70,12 +70,12 @@ same_sites : (sites : List Site) (h : History) (e : Entry) → SitesAgree sites 
     → ((i w kw : ℕ) → cond (accepted_nomination_by i w e) (figure_named e.call) kw ≡ kw)
     → SitesAgree sites (h ++ e ∷ [])
 same_sites sites h e g none no_figure no-enrolment no-nomination =
-    let n : accepted_enrolments (h ++ e ∷ []) ≡ accepted_enrolments h + 0 = rw none at (enrolments-push h e) in
+    let n : accepted_enrolments (h ++ e ∷ []) ≡ accepted_enrolments h + 0 = rw none at (enrolments_push h e) in
     let top : (i : ℕ) → highest_figure i (h ++ e ∷ []) ≡ highest_figure i h =
-    λ i. highest-push h e i ∙ ap (max (highest_figure i h)) (no_figure i) ∙ max-zero (highest_figure i h) in
+    λ i. highest_push h e i ∙ ap (max (highest_figure i h)) (no_figure i) ∙ max-zero (highest_figure i h) in
     let same : (i w kw : ℕ) → last_nominated i w kw (h ++ e ∷ []) ≡ last_nominated i w kw h =
-    λ i w kw. nominated-push h e i w kw ∙ no-nomination i w (last_nominated i w kw h) in
-    let first : (i : ℕ) → enrolled_figure i (h ++ e ∷ []) ≡ enrolled_figure i h = λ i. enrolled-push h e i ∙ no-enrolment i (enrolled_figure i h) in
+    λ i w kw. nominated_push h e i w kw ∙ no-nomination i w (last_nominated i w kw h) in
+    let first : (i : ℕ) → enrolled_figure i (h ++ e ∷ []) ≡ enrolled_figure i h = λ i. enrolled_push h e i ∙ no-enrolment i (enrolled_figure i h) in
     record {
       many = omega (arith, g.many);
       ten = g.ten;
@@ -98,12 +98,12 @@ enrolled_sites sites h m k kw g =
     let top-own : figure_for n e ≡ kw = ap (λ (b : Bool). cond ((b && true) || false) kw 0) (eq-eqb n n refl) in
     let top-other : (i : ℕ) → (n ≡ i → ⊥) → figure_for i e ≡ 0 = λ i q. ap (λ (b : Bool). cond ((b && true) || false) kw 0) (ne_eqb n i q) in
     let top-same : (i : ℕ) → (n ≡ i → ⊥) → highest_figure i (h ++ e ∷ []) ≡ highest_figure i h =
-    λ i q. highest-push h e i ∙ ap (max (highest_figure i h)) (top-other i q) ∙ max-zero (highest_figure i h) in
-    let first-own : enrolled_figure n (h ++ e ∷ []) ≡ kw = enrolled-push h e n ∙ ap (λ (b : Bool). cond (b && true) kw (enrolled_figure n h)) (eq-eqb n n refl) in
+    λ i q. highest_push h e i ∙ ap (max (highest_figure i h)) (top-other i q) ∙ max-zero (highest_figure i h) in
+    let first-own : enrolled_figure n (h ++ e ∷ []) ≡ kw = enrolled_push h e n ∙ ap (λ (b : Bool). cond (b && true) kw (enrolled_figure n h)) (eq-eqb n n refl) in
     let first-other : (i : ℕ) → (n ≡ i → ⊥) → enrolled_figure i (h ++ e ∷ []) ≡ enrolled_figure i h =
-    λ i q. enrolled-push h e i ∙ ap (λ (b : Bool). cond (b && true) kw (enrolled_figure i h)) (ne_eqb n i q) in
+    λ i q. enrolled_push h e i ∙ ap (λ (b : Bool). cond (b && true) kw (enrolled_figure i h)) (ne_eqb n i q) in
     record {
-      many = more ∙ ap (λ (c : ℕ). c + 1) g.many ∙ sym (enrolments-push h e);
+      many = more ∙ ap (λ (c : ℕ). c + 1) g.many ∙ sym (enrolments_push h e);
       ten = λ j l. elim (cases_lt j (length sites)) [
         | inl q ↦ ap (λ (y : Site). length y.weeks) (old j q) ∙ g.ten j q
         | inr q ↦ ap (λ (y : Site). length y.weeks) (new j (omega (arith, more))) ∙ length-replicate 10 kw
@@ -112,34 +112,34 @@ enrolled_sites sites h m k kw g =
         | inl q ↦ ap (λ (y : Site). y.highest) (old (i - 1) q) ∙ g.tops i l (omega arith) ∙ sym (top-same i (λ z. omega arith))
         | inr q ↦
             let is : i ≡ n = omega (arith, more) in
-            ap (λ (y : Site). y.highest) (new (i - 1) (omega (arith, more))) ∙ rw is (sym (highest-push h e n ∙ omega (arith, top-own, g.no_top n (omega arith))))
+            ap (λ (y : Site). y.highest) (new (i - 1) (omega (arith, more))) ∙ rw is (sym (highest_push h e n ∙ omega (arith, top-own, g.no_top n (omega arith))))
       ];
       figures = λ i w l u a b. elim (cases_lt (i - 1) (length sites)) [
         | inl q ↦
             ap (λ (y : Site). nomination_for y w) (old (i - 1) q) ∙ g.figures i w l (omega arith) a b
-            ∙ ap (λ (f : ℕ). last_nominated i w f h) (sym (first-other i (λ z. omega arith))) ∙ sym (nominated-push h e i w (enrolled_figure i (h ++ e ∷ [])))
+            ∙ ap (λ (f : ℕ). last_nominated i w f h) (sym (first-other i (λ z. omega arith))) ∙ sym (nominated_push h e i w (enrolled_figure i (h ++ e ∷ [])))
         | inr q ↦
             let is : i ≡ n = omega (arith, more) in
             ap (λ (y : Site). nomination_for y w) (new (i - 1) (omega (arith, more))) ∙ get_or-replicate 10 (w - 1) kw 0 (omega arith)
-            ∙ rw is (sym (nominated-push h e n w (enrolled_figure n (h ++ e ∷ [])) ∙ g.no_figure n w (enrolled_figure n (h ++ e ∷ [])) (omega arith) ∙ first-own))
+            ∙ rw is (sym (nominated_push h e n w (enrolled_figure n (h ++ e ∷ [])) ∙ g.no_figure n w (enrolled_figure n (h ++ e ∷ [])) (omega arith) ∙ first-own))
       ];
       no_top = λ i l. top-same i (λ z. omega (arith, more)) ∙ g.no_top i (omega (arith, more));
-      no_figure = λ i w f l. nominated-push h e i w f ∙ g.no_figure i w f (omega (arith, more));
+      no_figure = λ i w f l. nominated_push h e i w f ∙ g.no_figure i w f (omega (arith, more));
     }
 
 -- ---- a nomination
 
 module _ (x : Site) (w kw : ℕ) (full : length x.weeks ≡ 10) where
-  nominated-ten : length (nominated_site x w kw).weeks ≡ 10
-  nominated-ten = simp (length-append, length-take, length-replicate) (omega (arith, full))
+  nominated_ten : length (nominated_site x w kw).weeks ≡ 10
+  nominated_ten = simp (length-append, length-take, length-replicate) (omega (arith, full))
 
-  nominated-from : (v : ℕ) → v ≤ 10 → w ≤ v → 1 ≤ v → nomination_for (nominated_site x w kw) v ≡ kw
-  nominated-from v b l o =
+  nominated_from : (v : ℕ) → v ≤ 10 → w ≤ v → 1 ≤ v → nomination_for (nominated_site x w kw) v ≡ kw
+  nominated_from v b l o =
       get_or-append_right (take (w - 1) x.weeks) (replicate (length x.weeks - (w - 1)) kw) (w - 1) (v - 1) 0 (length-take-le (w - 1) x.weeks (omega (arith, full))) (omega arith)
       ∙ get_or-replicate (length x.weeks - (w - 1)) (v - 1 - (w - 1)) kw 0 (omega (arith, full))
 
-  nominated-before : (v : ℕ) → v ≤ 10 → v < w → 1 ≤ v → nomination_for (nominated_site x w kw) v ≡ nomination_for x v
-  nominated-before v b l o =
+  nominated_before : (v : ℕ) → v ≤ 10 → v < w → 1 ≤ v → nomination_for (nominated_site x w kw) v ≡ nomination_for x v
+  nominated_before v b l o =
       get_or_append_left (take (w - 1) x.weeks) _ 0 (v - 1) (simp length-take (omega (arith, full)))
       ∙ get_or-take (w - 1) x.weeks (v - 1) 0 (omega arith)
 
@@ -157,30 +157,30 @@ nominated_sites sites h m j w kw g low high =
     let top-own : figure_for j e ≡ kw = ap (λ (b : Bool). cond b kw 0) (eq-eqb j j refl) in
     let top-other : (i : ℕ) → (j ≡ i → ⊥) → figure_for i e ≡ 0 = λ i q. ap (λ (b : Bool). cond b kw 0) (ne_eqb j i q) in
     let top-same : (i : ℕ) → (j ≡ i → ⊥) → highest_figure i (h ++ e ∷ []) ≡ highest_figure i h =
-    λ i q. highest-push h e i ∙ ap (max (highest_figure i h)) (top-other i q) ∙ max-zero (highest_figure i h) in
-    let first : (i : ℕ) → enrolled_figure i (h ++ e ∷ []) ≡ enrolled_figure i h = λ i. enrolled-push h e i in
+    λ i q. highest_push h e i ∙ ap (max (highest_figure i h)) (top-other i q) ∙ max-zero (highest_figure i h) in
+    let first : (i : ℕ) → enrolled_figure i (h ++ e ∷ []) ≡ enrolled_figure i h = λ i. enrolled_push h e i in
     let last-other : (i v f : ℕ) → (j ≡ i → ⊥) → last_nominated i v f (h ++ e ∷ []) ≡ last_nominated i v f h =
-    λ i v f q. nominated-push h e i v f ∙ ap (λ (b : Bool). cond (b && leb w v) kw (last_nominated i v f h)) (ne_eqb j i q) in
+    λ i v f q. nominated_push h e i v f ∙ ap (λ (b : Bool). cond (b && leb w v) kw (last_nominated i v f h)) (ne_eqb j i q) in
     let last-from : (v f : ℕ) → w ≤ v → last_nominated j v f (h ++ e ∷ []) ≡ kw =
-    λ v f l. nominated-push h e j v f ∙ ap (λ (b : Bool). cond (b && leb w v) kw (last_nominated j v f h)) (eq-eqb j j refl) ∙ ap (λ (b : Bool). cond b kw (last_nominated j v f h)) (le-leb w v l) in
+    λ v f l. nominated_push h e j v f ∙ ap (λ (b : Bool). cond (b && leb w v) kw (last_nominated j v f h)) (eq-eqb j j refl) ∙ ap (λ (b : Bool). cond b kw (last_nominated j v f h)) (le-leb w v l) in
     let last-before : (v f : ℕ) → v < w → last_nominated j v f (h ++ e ∷ []) ≡ last_nominated j v f h =
-    λ v f l. nominated-push h e j v f ∙ ap (λ (b : Bool). cond (b && leb w v) kw (last_nominated j v f h)) (eq-eqb j j refl) ∙ ap (λ (b : Bool). cond b kw (last_nominated j v f h)) (lt-leb w v l) in
+    λ v f l. nominated_push h e j v f ∙ ap (λ (b : Bool). cond (b && leb w v) kw (last_nominated j v f h)) (eq-eqb j j refl) ∙ ap (λ (b : Bool). cond b kw (last_nominated j v f h)) (lt-leb w v l) in
     record {
-      many = same ∙ g.many ∙ sym (omega (arith, enrolments-push h e));
+      many = same ∙ g.many ∙ sym (omega (arith, enrolments_push h e));
       ten = λ k l. elim (cases_eq k (j - 1)) [
-        | inl q ↦ rw q (ap (λ (z : Site). length z.weeks) own ∙ nominated-ten x w kw full)
+        | inl q ↦ rw q (ap (λ (z : Site). length z.weeks) own ∙ nominated_ten x w kw full)
         | inr q ↦ ap (λ (z : Site). length z.weeks) (other k q) ∙ g.ten k (omega (arith, same))
       ];
       tops = λ i l u. elim (cases_eq j i) [
-        | inl q ↦ rw (← q) (ap (λ (z : Site). z.highest) own ∙ sym (highest-push h e j ∙ omega (arith, top-own, g.tops j low high)))
+        | inl q ↦ rw (← q) (ap (λ (z : Site). z.highest) own ∙ sym (highest_push h e j ∙ omega (arith, top-own, g.tops j low high)))
         | inr q ↦ ap (λ (z : Site). z.highest) (other (i - 1) (λ z. q (omega arith))) ∙ g.tops i l (omega (arith, same)) ∙ sym (top-same i q)
       ];
       figures = λ i v l u o b. elim (cases_eq j i) [
         | inl q ↦ rw (← q) (ap (λ (z : Site). nomination_for z v) own ∙ elim (cases_lt v w) [
           | inl p ↦
-              nominated-before x w kw full v b p o ∙ g.figures j v low high o b
+              nominated_before x w kw full v b p o ∙ g.figures j v low high o b
               ∙ ap (λ (f : ℕ). last_nominated j v f h) (sym (first j)) ∙ sym (last-before v (enrolled_figure j (h ++ e ∷ [])) p)
-          | inr p ↦ nominated-from x w kw full v b p o ∙ sym (last-from v (enrolled_figure j (h ++ e ∷ [])) p)
+          | inr p ↦ nominated_from x w kw full v b p o ∙ sym (last-from v (enrolled_figure j (h ++ e ∷ [])) p)
         ])
         | inr q ↦
             ap (λ (z : Site). nomination_for z v) (other (i - 1) (λ z. q (omega arith))) ∙ g.figures i v l (omega (arith, same)) o b
@@ -208,4 +208,4 @@ accepted_sites s h Close a g t =
     rw t.1 (same_sites s.sites h (taken Close (Closed (standing_events s) (standing_hours s))) g refl (λ _. refl) (λ _ _. refl) (λ _ _ _. refl))
 
 pub sites_agree : (old : Season) (year : ℕ) (calls : List Call) → SeasonSitesAgree (run (opened old year) calls) (history (opened old year) calls)
-sites_agree old year calls = after-calls SeasonSitesAgree refused_sites accepted_sites (opened old year) [] calls (opened_sites old year)
+sites_agree old year calls = after_calls SeasonSitesAgree refused_sites accepted_sites (opened old year) [] calls (opened_sites old year)

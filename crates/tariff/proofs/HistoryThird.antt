@@ -12,8 +12,8 @@ use Rattle.tariff.specs.declared.call.Answer.{Answer}
 use Rattle.tariff.specs.declared.call.Answer.TheVariants.{Week}
 use Rattle.tariff.specs.declared.call.SeasonRefusal.{SeasonRefusal}
 use Rattle.tariff.proofs.HistoryCalls.{Passed, Answered, entry, refused, of_reply}
-use Rattle.tariff.proofs.HistoryDays.{SeasonDaysAgree, announcements-push, refused_days, accepted_days}
-use Rattle.tariff.proofs.HistorySites.{SeasonSitesAgree, highest-push, refused_sites, accepted_sites}
+use Rattle.tariff.proofs.HistoryDays.{SeasonDaysAgree, announcements_push, refused_days, accepted_days}
+use Rattle.tariff.proofs.HistorySites.{SeasonSitesAgree, highest_push, refused_sites, accepted_sites}
 
 both_zero : (b : Bool) → ◌≡◌ {A = ℕ} (cond b 0 0) 0
 both_zero true = refl
@@ -64,18 +64,18 @@ abbrev pub Held : ℕ → ℕ → Season → History → Type 0
 Held site top s h = SeasonDaysAgree s h × SeasonSitesAgree s h × (3 ≤ accepted_announcements h) × (highest_figure site h ≡ top)
 
 module _ (site top : ℕ) where
-  pub refused-held : (s : Season) (h : History) (c : Call) (r : SeasonRefusal) → Held site top s h → Held site top s (h ++ refused c r ∷ [])
-  refused-held s h c r g = (
+  pub refused_held : (s : Season) (h : History) (c : Call) (r : SeasonRefusal) → Held site top s h → Held site top s (h ++ refused c r ∷ [])
+  refused_held s h c r g = (
     refused_days s h c r g.0,
     refused_sites s h c r g.1,
-    omega (arith, announcements-push h (refused c r), g.2),
-    omega (arith, highest-push h (refused c r) site, g.3),
+    omega (arith, announcements_push h (refused c r), g.2),
+    omega (arith, highest_push h (refused c r) site, g.3),
   )
 
-  pub accepted-held : (s : Season) (h : History) (c : Call) (a : Answer) → Held site top s h → Answered s c a → Held site top (after_taken s c a) (h ++ taken c a ∷ [])
-  accepted-held s h c a g t = (
+  pub accepted_held : (s : Season) (h : History) (c : Call) (a : Answer) → Held site top s h → Answered s c a → Held site top (after_taken s c a) (h ++ taken c a ∷ [])
+  accepted_held s h c a g t = (
     accepted_days s h c a g.0 t,
     accepted_sites s h c a g.1 t,
-    omega (arith, announcements-push h (taken c a), g.2),
-    highest-push h (taken c a) site ∙ max-eq_left (accepted_no_higher s h c a site g.0 g.1 g.2 t) ∙ g.3,
+    omega (arith, announcements_push h (taken c a), g.2),
+    highest_push h (taken c a) site ∙ max-eq_left (accepted_no_higher s h c a site g.0 g.1 g.2 t) ∙ g.3,
   )

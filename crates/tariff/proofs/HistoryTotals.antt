@@ -64,8 +64,8 @@ total_but_one f g k (suc n) l h =
 
 module _ (f : Day → ℕ) (days : List Day) (k n : ℕ) (day : Day) (in' : k < length days) (l : k < n) where
   -- what a total gains by a day written anew, and what it loses
-  pub over-set : over f (set days k day) n + f (day_in days k) ≡ over f days n + f day
-  over-set =
+  pub over_set : over f (set days k day) n + f (day_in days k) ≡ over f days n + f day
+  over_set =
       let gain = total_but_one (λ d. f (day_in (set days k day) d)) (λ d. f (day_in days d)) k n l
       (λ d q. ap f (get_or-set_other days k d day NoEvent q)) in
       let own : f (day_in (set days k day) k) ≡ f day = ap f (get_or-set_same days k day NoEvent in') in

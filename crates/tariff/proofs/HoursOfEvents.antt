@@ -85,24 +85,24 @@ module _ (days : List Day) where
   pub listed_at : (n k : ℕ) (o : EventHour) → k < length (event_hours_before days n) → Listed n (get_or (event_hours_before days n) k o)
   listed_at n k o l = All-get_or (Listed n) (event_hours_before days n) k o l (listed n)
 
-  pub none-left-out : (n d h : ℕ) → d < n → stands (day_in days d) ≡ true → (event_of (day_in days d)).start ≤ h → h < (event_of (day_in days d)).start + (event_of (day_in days d)).length
+  pub none_left_out : (n d h : ℕ) → d < n → stands (day_in days d) ≡ true → (event_of (day_in days d)).start ≤ h → h < (event_of (day_in days d)).start + (event_of (day_in days d)).length
       → Has (event_hours_before days n) (event_hour (event_number days d) d h)
   unfolding event_hours_before
-  none-left-out zero d h b e l m = let z : ⊥ = omega arith in absurd z
-  none-left-out (suc n) d h b e l m =
+  none_left_out zero d h b e l m = let z : ⊥ = omega arith in absurd z
+  none_left_out (suc n) d h b e l m =
       elim (cases_eq d n) [
         | inl q ↦ rw (← q) (has_append_right (event_hours_before days d) (hours_on (event_number days d) d (day_in days d)) (event_hour (event_number days d) d h) (has_on (event_number days d) d (day_in days d) h e l m))
-        | inr q ↦ has_append_left (event_hours_before days n) (hours_on (event_number days n) n (day_in days n)) (event_hour (event_number days d) d h) (none-left-out n d h (omega arith) e l m)
+        | inr q ↦ has_append_left (event_hours_before days n) (hours_on (event_number days n) n (day_in days n)) (event_hour (event_number days d) d h) (none_left_out n d h (omega arith) e l m)
       ]
 
-  rising-hours : (n : ℕ) → Rising (event_hours_before days n)
+  rising_hours : (n : ℕ) → Rising (event_hours_before days n)
   unfolding event_hours_before
-  rising-hours zero = tt
-  rising-hours (suc n) =
-      rising_append (event_hours_before days n) (hours_on (event_number days n) n (day_in days n)) (rising-hours n) (rising_on (event_number days n) n (day_in days n))
+  rising_hours zero = tt
+  rising_hours (suc n) =
+      rising_append (event_hours_before days n) (hours_on (event_number days n) n (day_in days n)) (rising_hours n) (rising_on (event_number days n) n (day_in days n))
       (All-weaker (Listed n) (λ p. All (Before p) (hours_on (event_number days n) n (day_in days n)))
       (λ p h. All-weaker (On (event_number days n) n (day_in days n)) (Before p) (λ q g. inl (omega arith)) (hours_on (event_number days n) n (day_in days n)) (each_on (event_number days n) n (day_in days n)))
       (event_hours_before days n) (listed n))
 
   pub hours_rise : (n j k : ℕ) (o : EventHour) → j < k → k < length (event_hours_before days n) → Before (get_or (event_hours_before days n) j o) (get_or (event_hours_before days n) k o)
-  hours_rise n j k o l m = rising_at (event_hours_before days n) j k o (rising-hours n) l m
+  hours_rise n j k o l m = rising_at (event_hours_before days n) j k o (rising_hours n) l m

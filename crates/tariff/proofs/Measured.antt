@@ -8,24 +8,24 @@ use Rattle.tariff.specs.Season.{Season, day_at, standing}
 use Rattle.tariff.specs.Sound.{Sound}
 use Rattle.tariff.specs.Tables.{Table, load_of}
 use Rattle.tariff.specs.declared.season.Site.{Site}
-use Rattle.tariff.proofs.Baselines.{comparison_free, base-of-same, adjusted-of-same}
+use Rattle.tariff.proofs.Baselines.{comparison_free, base_of_same, adjusted_of_same}
 use Rattle.tariff.proofs.Runs.{standing_fit}
 
 reduction_of_same : (t u : Table) (days : List ℕ) (d n h : ℕ) → t d h ≡ u d h → adjusted_of t days d n h ≡ adjusted_of u days d n h → reduction_of t days d n h ≡ reduction_of u days d n h
 unfolding reduction_of
 reduction_of_same t u days d n h p q = let v = ap load_of p in cc
 
-module _ (s : Season) (sound : Sound s) (t u : Table) (free-same : (k h : ℕ) → k < 76 → h < 24 → standing s k ≡ false → t k h ≡ u k h) where
+module _ (s : Season) (sound : Sound s) (t u : Table) (free_same : (k h : ℕ) → k < 76 → h < 24 → standing s k ≡ false → t k h ≡ u k h) where
   -- on a day d on which the tables hold the same in each hour
-  pub measured-same : (x : Site) (number d h : ℕ) → standing s d ≡ true → h < (event_of (day_at s d)).start + (event_of (day_at s d)).length
+  pub measured_same : (x : Site) (number d h : ℕ) → standing s d ≡ true → h < (event_of (day_at s d)).start + (event_of (day_at s d)).length
       → ((k : ℕ) → k < 24 → t d k ≡ u d k)
       → measured s x t (event_hour number d h) ≡ measured s x u (event_hour number d h)
-  measured-same x number d h e to same =
+  measured_same x number d h e to same =
       let f = standing_fit s d sound e in
       let m : h < 24 = omega arith in
       let free = comparison_free s d (omega arith) in
-      let base = base-of-same s t u free-same (comparison_days s d) free h m in
-      let adjusted = adjusted-of-same s t u free-same (comparison_days s d) free d (notice_hour s d) h (omega arith) m
+      let base = base_of_same s t u free_same (comparison_days s d) free h m in
+      let adjusted = adjusted_of_same s t u free_same (comparison_days s d) free d (notice_hour s d) h (omega arith) m
       (same (notice_hour s d - 2) (omega arith)) (same (notice_hour s d - 1) (omega arith)) in
       let reduction = reduction_of_same t u (comparison_days s d) d (notice_hour s d) h (same h m) adjusted in
       cc

@@ -14,7 +14,7 @@ use Rattle.tariff.specs.declared.season.Site.{Site}
 use Rattle.tariff.specs.declared.statement.MeasuredHour.{MeasuredHour}
 use Rattle.tariff.specs.declared.statement.HourLine.{HourLine}
 use Rattle.tariff.specs.declared.statement.WeekLine.{WeekLine}
-use Rattle.tariff.proofs.Pointwise.{each_map, each_mapped, each-kept, each-filled, each_at, each-sum, each-sum-back}
+use Rattle.tariff.proofs.Pointwise.{each_map, each_mapped, each_kept, each_filled, each_at, each_sum, each_sum_back}
 use Rattle.tariff.proofs.Ranking.{all_counting}
 
 -- ---- rates
@@ -59,60 +59,60 @@ priced_no_worse l m r = record {
 }
 
 module _ (year : ℕ) (x : Site) (hours more : List MeasuredHour) (each : AllZip ReducedNoLess hours more) where
-  lines-no-worse : AllZip LineNoWorse (map priced hours) (map priced more)
-  lines-no-worse = each_mapped ReducedNoLess LineNoWorse priced priced_no_worse hours more each
+  lines_no_worse : AllZip LineNoWorse (map priced hours) (map priced more)
+  lines_no_worse = each_mapped ReducedNoLess LineNoWorse priced priced_no_worse hours more each
 
-  in-week-no-less : (w : ℕ) → AllZip ReducedNoLess (hours_in_week year w hours) (hours_in_week year w more)
+  in_week_no_less : (w : ℕ) → AllZip ReducedNoLess (hours_in_week year w hours) (hours_in_week year w more)
   unfolding hours_in_week
-  in-week-no-less w = each-kept ReducedNoLess (λ m. in_week year w m.day) (λ l m r. ap (in_week year w) r.day) hours more each
+  in_week_no_less w = each_kept ReducedNoLess (λ m. in_week year w m.day) (λ l m r. ap (in_week year w) r.day) hours more each
 
-  counted-more : (n w : ℕ) → counted_sum n (hours_in_week year w hours) ≤ counted_sum n (hours_in_week year w more)
+  counted_more : (n w : ℕ) → counted_sum n (hours_in_week year w hours) ≤ counted_sum n (hours_in_week year w more)
   unfolding counted_sum
-  counted-more n w =
-      each-sum ReducedNoLess (λ m. counted_reduction n m.reduction) (λ m. counted_reduction n m.reduction) (λ l m r. omega (arith, r.reduction))
-      (hours_in_week year w hours) (hours_in_week year w more) (in-week-no-less w)
+  counted_more n w =
+      each_sum ReducedNoLess (λ m. counted_reduction n m.reduction) (λ m. counted_reduction n m.reduction) (λ l m r. omega (arith, r.reduction))
+      (hours_in_week year w hours) (hours_in_week year w more) (in_week_no_less w)
 
-  week-no-worse : (w : ℕ) → WeekNoWorse (week_line year x hours w) (week_line year x more w)
-  week-no-worse w =
+  week_no_worse : (w : ℕ) → WeekNoWorse (week_line year x hours w) (week_line year x more w)
+  week_no_worse w =
       let n : ℕ = nomination_for x w in
-      let many : length (hours_in_week year w hours) ≡ length (hours_in_week year w more) = length_all_zip ReducedNoLess _ _ (in-week-no-less w) in
+      let many : length (hours_in_week year w hours) ≡ length (hours_in_week year w more) = length_all_zip ReducedNoLess _ _ (in_week_no_less w) in
       record {
         nomination = refl;
         hours = sym many;
         days = refl;
-        counted = counted-more n w;
-        capacity = rw many (capacity_le n (length (hours_in_week year w more)) _ _ (programme_days year w) (counted-more n w));
+        counted = counted_more n w;
+        capacity = rw many (capacity_le n (length (hours_in_week year w more)) _ _ (programme_days year w) (counted_more n w));
       }
 
-  weeks-no-worse : AllZip WeekNoWorse (week_lines year x hours) (week_lines year x more)
+  weeks_no_worse : AllZip WeekNoWorse (week_lines year x hours) (week_lines year x more)
   unfolding week_lines
-  weeks-no-worse =
+  weeks_no_worse =
       each_map WeekNoWorse (week_line year x hours) (week_line year x more) (range_with_len 1 (last_week year))
-      (all_counting _ 1 (last_week year) (λ w _ _. week-no-worse w))
+      (all_counting _ 1 (last_week year) (λ w _ _. week_no_worse w))
 
-  charged-no-more : charged_of (map priced more) ≤ charged_of (map priced hours)
+  charged_no_more : charged_of (map priced more) ≤ charged_of (map priced hours)
   unfolding charged_of
-  charged-no-more = each-sum-back LineNoWorse (λ l. l.adjustment) (λ l. l.adjustment) (λ l m b. b.adjustment) (map priced hours) (map priced more) lines-no-worse
+  charged_no_more = each_sum_back LineNoWorse (λ l. l.adjustment) (λ l. l.adjustment) (λ l m b. b.adjustment) (map priced hours) (map priced more) lines_no_worse
 
-  incentive-no-less : incentive_of (map priced hours) (week_lines year x hours) ≤ incentive_of (map priced more) (week_lines year x more)
+  incentive_no_less : incentive_of (map priced hours) (week_lines year x hours) ≤ incentive_of (map priced more) (week_lines year x more)
   unfolding incentive_of
-  incentive-no-less =
-      let e = each-sum LineNoWorse (λ l. l.energy) (λ l. l.energy) (λ l m b. b.energy) (map priced hours) (map priced more) lines-no-worse in
-      let c = each-sum WeekNoWorse (λ w. w.capacity) (λ w. w.capacity) (λ v w b. b.capacity) (week_lines year x hours) (week_lines year x more) weeks-no-worse in
+  incentive_no_less =
+      let e = each_sum LineNoWorse (λ l. l.energy) (λ l. l.energy) (λ l m b. b.energy) (map priced hours) (map priced more) lines_no_worse in
+      let c = each_sum WeekNoWorse (λ w. w.capacity) (λ w. w.capacity) (λ v w b. b.capacity) (week_lines year x hours) (week_lines year x more) weeks_no_worse in
       omega arith
 
-  pub no-worse : NoWorse (paid_for year x hours) (paid_for year x more)
+  pub no_worse : NoWorse (paid_for year x hours) (paid_for year x more)
   unfolding paid_for
-  no-worse =
+  no_worse =
       let lines : (k : ℕ) → LineNoWorse (line_at (paid_for year x hours) k) (line_at (paid_for year x more) k) = λ k.
       each_at LineNoWorse (filled no_hour 60 (map priced hours)) (filled no_hour 60 (map priced more)) k no_hour (line_self no_hour)
-      (each-filled LineNoWorse no_hour 60 (map priced hours) (map priced more) (line_self no_hour) lines-no-worse) in
+      (each_filled LineNoWorse no_hour 60 (map priced hours) (map priced more) (line_self no_hour) lines_no_worse) in
       let weeks : (k : ℕ) → WeekNoWorse (week_at (paid_for year x hours) k) (week_at (paid_for year x more) k) = λ k.
       each_at WeekNoWorse (filled no_week 10 (week_lines year x hours)) (filled no_week 10 (week_lines year x more)) k no_week (week_self no_week)
-      (each-filled WeekNoWorse no_week 10 (week_lines year x hours) (week_lines year x more) (week_self no_week) weeks-no-worse) in
-      let p = charged-no-more in
-      let q = incentive-no-less in
+      (each_filled WeekNoWorse no_week 10 (week_lines year x hours) (week_lines year x more) (week_self no_week) weeks_no_worse) in
+      let p = charged_no_more in
+      let q = incentive_no_less in
       record { lines = lines; weeks = weeks; incentive = q; charged = p; net = omega arith; paid = omega arith }
 
 pub reducing_no_less_never_costs_lem : ReducingNoLessNeverCosts
-reducing_no_less_never_costs_lem = no-worse
+reducing_no_less_never_costs_lem = no_worse

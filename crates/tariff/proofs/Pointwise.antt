@@ -46,12 +46,12 @@ module _ {X : Type 0} (R : X → X → Type 0) where
   each_map f g [] h = tt
   each_map f g (z ∷ zs) h = (h.0, each_map f g zs h.1)
 
-  each-replicate : (n : ℕ) (x : X) → R x x → AllZip R (replicate n x) (replicate n x)
-  each-replicate zero x h = tt
-  each-replicate (suc n) x h = (h, each-replicate n x h)
+  each_replicate : (n : ℕ) (x : X) → R x x → AllZip R (replicate n x) (replicate n x)
+  each_replicate zero x h = tt
+  each_replicate (suc n) x h = (h, each_replicate n x h)
 
-  pub each-filled : (a : X) (n : ℕ) (xs ys : List X) → R a a → AllZip R xs ys → AllZip R (filled a n xs) (filled a n ys)
-  each-filled a n xs ys r h = each_append xs ys _ _ h (rw (length_all_zip R xs ys h) (each-replicate (n - length ys) a r))
+  pub each_filled : (a : X) (n : ℕ) (xs ys : List X) → R a a → AllZip R xs ys → AllZip R (filled a n xs) (filled a n ys)
+  each_filled a n xs ys r h = each_append xs ys _ _ h (rw (length_all_zip R xs ys h) (each_replicate (n - length ys) a r))
 
   pub each_at : (xs ys : List X) (k : ℕ) (d : X) → R d d → AllZip R xs ys → R (get_or xs k d) (get_or ys k d)
   each_at [] [] k d r h = r
@@ -60,30 +60,30 @@ module _ {X : Type 0} (R : X → X → Type 0) where
   each_at (x ∷ xs) (y ∷ ys) zero d r h = h.0
   each_at (x ∷ xs) (y ∷ ys) (suc k) d r h = each_at xs ys k d r h.1
 
-  pub each-sum : (f g : X → ℕ) → ((x y : X) → R x y → f x ≤ g y) → (xs ys : List X) → AllZip R xs ys → sum_by f xs ≤ sum_by g ys
-  each-sum f g le [] [] h = omega arith
-  each-sum f g le [] (y ∷ ys) h = absurd h
-  each-sum f g le (x ∷ xs) [] h = absurd h
-  each-sum f g le (x ∷ xs) (y ∷ ys) h =
-      omega (arith, sum_by-cons f x xs, sum_by-cons g y ys, le x y h.0, each-sum f g le xs ys h.1)
+  pub each_sum : (f g : X → ℕ) → ((x y : X) → R x y → f x ≤ g y) → (xs ys : List X) → AllZip R xs ys → sum_by f xs ≤ sum_by g ys
+  each_sum f g le [] [] h = omega arith
+  each_sum f g le [] (y ∷ ys) h = absurd h
+  each_sum f g le (x ∷ xs) [] h = absurd h
+  each_sum f g le (x ∷ xs) (y ∷ ys) h =
+      omega (arith, sum_by-cons f x xs, sum_by-cons g y ys, le x y h.0, each_sum f g le xs ys h.1)
 
   -- the same of what stands right of a relation
-  pub each-sum-back : (f g : X → ℕ) → ((x y : X) → R x y → g y ≤ f x) → (xs ys : List X) → AllZip R xs ys → sum_by g ys ≤ sum_by f xs
-  each-sum-back f g le [] [] h = omega arith
-  each-sum-back f g le [] (y ∷ ys) h = absurd h
-  each-sum-back f g le (x ∷ xs) [] h = absurd h
-  each-sum-back f g le (x ∷ xs) (y ∷ ys) h =
-      omega (arith, sum_by-cons f x xs, sum_by-cons g y ys, le x y h.0, each-sum-back f g le xs ys h.1)
+  pub each_sum_back : (f g : X → ℕ) → ((x y : X) → R x y → g y ≤ f x) → (xs ys : List X) → AllZip R xs ys → sum_by g ys ≤ sum_by f xs
+  each_sum_back f g le [] [] h = omega arith
+  each_sum_back f g le [] (y ∷ ys) h = absurd h
+  each_sum_back f g le (x ∷ xs) [] h = absurd h
+  each_sum_back f g le (x ∷ xs) (y ∷ ys) h =
+      omega (arith, sum_by-cons f x xs, sum_by-cons g y ys, le x y h.0, each_sum_back f g le xs ys h.1)
 
   -- a test that related elements pass alike keeps related lists
-  pub each-kept : (p : X → Bool) → ((x y : X) → R x y → p y ≡ p x) → (xs ys : List X) → AllZip R xs ys → AllZip R (filter p xs) (filter p ys)
-  each-kept p alike [] [] h = tt
-  each-kept p alike [] (y ∷ ys) h = absurd h
-  each-kept p alike (x ∷ xs) [] h = absurd h
-  each-kept p alike (x ∷ xs) (y ∷ ys) h =
+  pub each_kept : (p : X → Bool) → ((x y : X) → R x y → p y ≡ p x) → (xs ys : List X) → AllZip R xs ys → AllZip R (filter p xs) (filter p ys)
+  each_kept p alike [] [] h = tt
+  each_kept p alike [] (y ∷ ys) h = absurd h
+  each_kept p alike (x ∷ xs) [] h = absurd h
+  each_kept p alike (x ∷ xs) (y ∷ ys) h =
       rw (alike x y h.0) (elim (cases_Bool (p x)) [
-        | inl e ↦ rw e (h.0, each-kept p alike xs ys h.1)
-        | inr e ↦ rw e (each-kept p alike xs ys h.1)
+        | inl e ↦ rw e (h.0, each_kept p alike xs ys h.1)
+        | inr e ↦ rw e (each_kept p alike xs ys h.1)
       ])
 
 -- relations carried over by a function

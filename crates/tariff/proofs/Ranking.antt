@@ -24,56 +24,56 @@ all_in P p [] h i Q use-it = absurd i
 all_in P p (x ∷ xs) h i Q use-it = elim i [ inl e ↦ use-it x e h.0 | inr j ↦ all_in P p xs h.1 j Q use-it ]
 
 module _ (f : ℕ → ℕ) (x : ℕ) where
-  pub in-front : (y : ℕ) (ys : List ℕ) → f y ≤ f x → ranked_in f x (y ∷ ys) ≡ x ∷ y ∷ ys
+  pub in_front : (y : ℕ) (ys : List ℕ) → f y ≤ f x → ranked_in f x (y ∷ ys) ≡ x ∷ y ∷ ys
   unfolding ranked_in
-  in-front y ys h = cond-true (leb (f y) (f x)) _ _ (le-leb (f y) (f x) h)
+  in_front y ys h = cond-true (leb (f y) (f x)) _ _ (le-leb (f y) (f x) h)
 
   pub behind : (y : ℕ) (ys : List ℕ) → f x < f y → ranked_in f x (y ∷ ys) ≡ y ∷ ranked_in f x ys
   unfolding ranked_in
   behind y ys h = cond-false (leb (f y) (f x)) _ _ (lt-leb (f y) (f x) h)
 
-  pub in-last : ranked_in f x [] ≡ x ∷ []
+  pub in_last : ranked_in f x [] ≡ x ∷ []
   unfolding ranked_in
-  in-last = refl
+  in_last = refl
 
   -- either way, as a rule on the list
   pub by_way : (P : List ℕ → Type 0) (y : ℕ) (ys : List ℕ) → (leb (f y) (f x) ≡ true → P (x ∷ y ∷ ys)) → (leb (f y) (f x) ≡ false → P (y ∷ ranked_in f x ys)) → P (ranked_in f x (y ∷ ys))
   unfolding ranked_in
   by_way P y ys p q = cond_both (leb (f y) (f x)) (x ∷ y ∷ ys) (y ∷ ranked_in f x ys) P p q
 
-  pub all-ranked-in : (P : ℕ → Type 0) (ys : List ℕ) → P x → All P ys → All P (ranked_in f x ys)
+  pub all_ranked_in : (P : ℕ → Type 0) (ys : List ℕ) → P x → All P ys → All P (ranked_in f x ys)
   unfolding ranked_in
-  all-ranked-in P [] h k = (h, tt)
-  all-ranked-in P (y ∷ ys) h k = by_way (All P) y ys (λ _. (h, k)) (λ _. (k.0, all-ranked-in P ys h k.1))
+  all_ranked_in P [] h k = (h, tt)
+  all_ranked_in P (y ∷ ys) h k = by_way (All P) y ys (λ _. (h, k)) (λ _. (k.0, all_ranked_in P ys h k.1))
 
-  pub in-ranked-in : (p : ℕ) (ys : List ℕ) → (x ≡ p) ⊎ In p ys → In p (ranked_in f x ys)
+  pub in_ranked_in : (p : ℕ) (ys : List ℕ) → (x ≡ p) ⊎ In p ys → In p (ranked_in f x ys)
   unfolding ranked_in
-  in-ranked-in p [] i = i
-  in-ranked-in p (y ∷ ys) i =
+  in_ranked_in p [] i = i
+  in_ranked_in p (y ∷ ys) i =
       by_way (In p) y ys (λ _. i)
       (λ _.
       elim i [
-        | inl e ↦ inr (in-ranked-in p ys (inl e))
-        | inr j ↦ elim j [ inl e ↦ inl e | inr k ↦ inr (in-ranked-in p ys (inr k)) ]
+        | inl e ↦ inr (in_ranked_in p ys (inl e))
+        | inr j ↦ elim j [ inl e ↦ inl e | inr k ↦ inr (in_ranked_in p ys (inr k)) ]
       ])
 
-  pub length-ranked-in : (ys : List ℕ) → length (ranked_in f x ys) ≡ suc (length ys)
-  length-ranked-in [] = ap length in-last
-  length-ranked-in (y ∷ ys) =
-      by_way (λ zs. length zs ≡ suc (suc (length ys))) y ys (λ _. refl) (λ _. ap suc (length-ranked-in ys))
+  pub length_ranked_in : (ys : List ℕ) → length (ranked_in f x ys) ≡ suc (length ys)
+  length_ranked_in [] = ap length in_last
+  length_ranked_in (y ∷ ys) =
+      by_way (λ zs. length zs ≡ suc (suc (length ys))) y ys (λ _. refl) (λ _. ap suc (length_ranked_in ys))
 
-  take-cons : (n y : ℕ) (ys : List ℕ) → take n (y ∷ ys) ≡ take n (y ∷ take n ys)
-  take-cons zero y ys = refl
-  take-cons (suc n) y ys = ap (λ zs. y ∷ zs) (sym (take-take n (suc n) ys (omega arith)))
+  take_cons : (n y : ℕ) (ys : List ℕ) → take n (y ∷ ys) ≡ take n (y ∷ take n ys)
+  take_cons zero y ys = refl
+  take_cons (suc n) y ys = ap (λ zs. y ∷ zs) (sym (take-take n (suc n) ys (omega arith)))
 
   -- what is past the first n moves nothing among them
-  pub take-ranked-in : (n : ℕ) (ys : List ℕ) → take n (ranked_in f x ys) ≡ take n (ranked_in f x (take n ys))
+  pub take_ranked_in : (n : ℕ) (ys : List ℕ) → take n (ranked_in f x ys) ≡ take n (ranked_in f x (take n ys))
   unfolding ranked_in
-  take-ranked-in zero ys = refl
-  take-ranked-in (suc n) [] = refl
-  take-ranked-in (suc n) (y ∷ ys) =
+  take_ranked_in zero ys = refl
+  take_ranked_in (suc n) [] = refl
+  take_ranked_in (suc n) (y ∷ ys) =
       elim (leb (f y) (f x)) as (λ b. take (suc n) (cond b (x ∷ y ∷ ys) (y ∷ ranked_in f x ys)) ≡ take (suc n) (cond b (x ∷ y ∷ take n ys) (y ∷ ranked_in f x (take n ys))))
-      [ true ↦ ap (λ zs. x ∷ zs) (take-cons n y ys) | false ↦ ap (λ zs. y ∷ zs) (take-ranked-in n ys) ]
+      [ true ↦ ap (λ zs. x ∷ zs) (take_cons n y ys) | false ↦ ap (λ zs. y ∷ zs) (take_ranked_in n ys) ]
 
 pub ranked_cons : (f : ℕ → ℕ) (x : ℕ) (xs : List ℕ) → ranked f (x ∷ xs) ≡ ranked_in f x (ranked f xs)
 unfolding ranked
@@ -86,14 +86,14 @@ ranked_none f = refl
 pub all_ranked : (P : ℕ → Type 0) (f : ℕ → ℕ) (xs : List ℕ) → All P xs → All P (ranked f xs)
 unfolding ranked
 all_ranked P f [] h = tt
-all_ranked P f (x ∷ xs) h = all-ranked-in f x P (ranked f xs) h.0 (all_ranked P f xs h.1)
+all_ranked P f (x ∷ xs) h = all_ranked_in f x P (ranked f xs) h.0 (all_ranked P f xs h.1)
 
 pub in_ranked : (f : ℕ → ℕ) (p : ℕ) (xs : List ℕ) → In p xs → In p (ranked f xs)
 unfolding ranked
 in_ranked f p [] i = i
 in_ranked f p (x ∷ xs) i =
-    in-ranked-in f x p (ranked f xs) (elim i [ inl e ↦ inl e | inr j ↦ inr (in_ranked f p xs j) ])
+    in_ranked_in f x p (ranked f xs) (elim i [ inl e ↦ inl e | inr j ↦ inr (in_ranked f p xs j) ])
 
 pub length_ranked : (f : ℕ → ℕ) (xs : List ℕ) → length (ranked f xs) ≡ length xs
 length_ranked f [] = ap length (ranked_none f)
-length_ranked f (x ∷ xs) = ap length (ranked_cons f x xs) ∙ length-ranked-in f x (ranked f xs) ∙ ap suc (length_ranked f xs)
+length_ranked f (x ∷ xs) = ap length (ranked_cons f x xs) ∙ length_ranked_in f x (ranked f xs) ∙ ap suc (length_ranked f xs)

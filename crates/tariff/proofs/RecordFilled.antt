@@ -31,14 +31,14 @@ abbrev answer_of : Season → ℕ → Table → Statement × ℕ
 answer_of s site t = (statement_of s (site_at s site) t, length (season_event_hours s))
 
 module _ (s : Season) (site : ℕ) (t : Table) (x : Statement) (n : ℕ) (answer : outcome s site t ≡ Ok (x, n)) where
-  with-site : cond (not (has_site s site)) (Err NoSuchSite) (refused_or (season_fault s t) (answer_of s site t)) ≡ Ok (x, n)
-  with-site = unrefused (not s.closed) SeasonNotClosed _ (x, n) answer
+  with_site : cond (not (has_site s site)) (Err NoSuchSite) (refused_or (season_fault s t) (answer_of s site t)) ≡ Ok (x, n)
+  with_site = unrefused (not s.closed) SeasonNotClosed _ (x, n) answer
 
   whole : answer_of s site t ≡ (x, n)
-  whole = faultless (season_fault s t) (answer_of s site t) (x, n) (unrefused (not (has_site s site)) NoSuchSite _ (x, n) with-site)
+  whole = faultless (season_fault s t) (answer_of s site t) (x, n) (unrefused (not (has_site s site)) NoSuchSite _ (x, n) with_site)
 
-  pub statement-is : statement_of s (site_at s site) t ≡ x
-  statement-is = ap (λ (y : Statement × ℕ). y.0) whole
+  pub statement_is : statement_of s (site_at s site) t ≡ x
+  statement_is = ap (λ (y : Statement × ℕ). y.0) whole
 
   pub number_is : length (season_event_hours s) ≡ n
   number_is = ap (λ (y : Statement × ℕ). y.1) whole
@@ -46,26 +46,26 @@ module _ (s : Season) (site : ℕ) (t : Table) (x : Statement) (n : ℕ) (answer
 -- ---- lists that are filled up
 
 module _ {X : Type 0} (a : X) where
-  unused-at : (n k : ℕ) → get_or (replicate n a) k a ≡ a
-  unused-at zero k = refl
-  unused-at (suc n) zero = refl
-  unused-at (suc n) (suc k) = unused-at n k
+  unused_at : (n k : ℕ) → get_or (replicate n a) k a ≡ a
+  unused_at zero k = refl
+  unused_at (suc n) zero = refl
+  unused_at (suc n) (suc k) = unused_at n k
 
-  filled-used : (n : ℕ) (xs : List X) (k : ℕ) (d : X) → k < length xs → get_or (filled a n xs) k d ≡ get_or xs k d
-  filled-used n xs k d l = get_or_append_left xs (replicate (n - length xs) a) d k l
+  filled_used : (n : ℕ) (xs : List X) (k : ℕ) (d : X) → k < length xs → get_or (filled a n xs) k d ≡ get_or xs k d
+  filled_used n xs k d l = get_or_append_left xs (replicate (n - length xs) a) d k l
 
-  filled-unused : (n : ℕ) (xs : List X) (k : ℕ) → length xs ≤ k → get_or (filled a n xs) k a ≡ a
-  filled-unused n xs k l = get_or-append_right xs (replicate (n - length xs) a) (length xs) k a refl l ∙ unused-at (n - length xs) (k - length xs)
+  filled_unused : (n : ℕ) (xs : List X) (k : ℕ) → length xs ≤ k → get_or (filled a n xs) k a ≡ a
+  filled_unused n xs k l = get_or-append_right xs (replicate (n - length xs) a) (length xs) k a refl l ∙ unused_at (n - length xs) (k - length xs)
 
-  length-filled : (n : ℕ) (xs : List X) → length xs ≤ n → length (filled a n xs) ≡ n
-  length-filled n xs l = length-append xs (replicate (n - length xs) a) ∙ ap (λ m. length xs + m) (length-replicate (n - length xs) a) ∙ omega arith
+  length_filled : (n : ℕ) (xs : List X) → length xs ≤ n → length (filled a n xs) ≡ n
+  length_filled n xs l = length-append xs (replicate (n - length xs) a) ∙ ap (λ m. length xs + m) (length-replicate (n - length xs) a) ∙ omega arith
 
-  sumBy-unused : (f : X → ℕ) → f a ≡ 0 → (n : ℕ) → sum_by f (replicate n a) ≡ 0
-  sumBy-unused f e zero = refl
-  sumBy-unused f e (suc n) = omega (arith, sum_by-cons f a (replicate n a), sumBy-unused f e n)
+  sumBy_unused : (f : X → ℕ) → f a ≡ 0 → (n : ℕ) → sum_by f (replicate n a) ≡ 0
+  sumBy_unused f e zero = refl
+  sumBy_unused f e (suc n) = omega (arith, sum_by-cons f a (replicate n a), sumBy_unused f e n)
 
-  pub sumBy-filled : (f : X → ℕ) → f a ≡ 0 → (n : ℕ) (xs : List X) → sum_by f (filled a n xs) ≡ sum_by f xs
-  sumBy-filled f e n xs = omega (arith, sum_by-append f xs (replicate (n - length xs) a), sumBy-unused f e (n - length xs))
+  pub sumBy_filled : (f : X → ℕ) → f a ≡ 0 → (n : ℕ) (xs : List X) → sum_by f (filled a n xs) ≡ sum_by f xs
+  sumBy_filled f e n xs = omega (arith, sum_by-append f xs (replicate (n - length xs) a), sumBy_unused f e (n - length xs))
 
 -- ---- weeks
 
@@ -84,39 +84,39 @@ week_within year d h = omega arith
 -- ---- the lines of a statement
 
 module _ (s : Season) (x : Site) (t : Table) where
-  length-lines : length (map priced (measured_hours s x t)) ≡ length (season_event_hours s)
-  length-lines = length-map (measured_hours s x t) priced ∙ length-map (season_event_hours s) (measured s x t)
+  length_lines : length (map priced (measured_hours s x t)) ≡ length (season_event_hours s)
+  length_lines = length-map (measured_hours s x t) priced ∙ length-map (season_event_hours s) (measured s x t)
 
-  length-weeks : length (week_lines s.year x (measured_hours s x t)) ≡ last_week s.year
+  length_weeks : length (week_lines s.year x (measured_hours s x t)) ≡ last_week s.year
   unfolding week_lines
-  length-weeks = length-map-range_with_len (week_line s.year x (measured_hours s x t)) 1 (last_week s.year)
+  length_weeks = length-map-range_with_len (week_line s.year x (measured_hours s x t)) 1 (last_week s.year)
 
-  pub sixty-lines : length (season_event_hours s) ≤ 60 → length (statement_of s x t).hours ≡ 60
+  pub sixty_lines : length (season_event_hours s) ≤ 60 → length (statement_of s x t).hours ≡ 60
   unfolding statement_of paid_for
-  sixty-lines l = length-filled no_hour 60 (map priced (measured_hours s x t)) (omega (arith, length-lines))
+  sixty_lines l = length_filled no_hour 60 (map priced (measured_hours s x t)) (omega (arith, length_lines))
 
-  pub ten-weeks : length (statement_of s x t).weeks ≡ 10
+  pub ten_weeks : length (statement_of s x t).weeks ≡ 10
   unfolding statement_of paid_for
-  ten-weeks = length-filled no_week 10 (week_lines s.year x (measured_hours s x t)) (omega (arith, length-weeks, weeks_few s.year))
+  ten_weeks = length_filled no_week 10 (week_lines s.year x (measured_hours s x t)) (omega (arith, length_weeks, weeks_few s.year))
 
-  pub line-is : (k : ℕ) (o : EventHour) → k < length (season_event_hours s) → line_at (statement_of s x t) k ≡ priced (measured s x t (get_or (season_event_hours s) k o))
+  pub line_is : (k : ℕ) (o : EventHour) → k < length (season_event_hours s) → line_at (statement_of s x t) k ≡ priced (measured s x t (get_or (season_event_hours s) k o))
   unfolding statement_of paid_for
-  line-is k o l =
+  line_is k o l =
       let m : k < length (measured_hours s x t) = omega (arith, length-map (season_event_hours s) (measured s x t)) in
-      filled-used no_hour 60 (map priced (measured_hours s x t)) k no_hour (omega (arith, length-lines))
+      filled_used no_hour 60 (map priced (measured_hours s x t)) k no_hour (omega (arith, length_lines))
       ∙ get_or-map priced (measured_hours s x t) k (measured s x t o) no_hour m
       ∙ ap priced (get_or-map (measured s x t) (season_event_hours s) k o (measured s x t o) l)
 
-  pub unused-line : (k : ℕ) → length (season_event_hours s) ≤ k → line_at (statement_of s x t) k ≡ no_hour
+  pub unused_line : (k : ℕ) → length (season_event_hours s) ≤ k → line_at (statement_of s x t) k ≡ no_hour
   unfolding statement_of paid_for
-  unused-line k l = filled-unused no_hour 60 (map priced (measured_hours s x t)) k (omega (arith, length-lines))
+  unused_line k l = filled_unused no_hour 60 (map priced (measured_hours s x t)) k (omega (arith, length_lines))
 
-  pub week-is : (k : ℕ) → k < last_week s.year → week_at (statement_of s x t) k ≡ week_line s.year x (measured_hours s x t) (k + 1)
+  pub week_is : (k : ℕ) → k < last_week s.year → week_at (statement_of s x t) k ≡ week_line s.year x (measured_hours s x t) (k + 1)
   unfolding statement_of paid_for week_lines
-  week-is k l =
-      filled-used no_week 10 (week_lines s.year x (measured_hours s x t)) k no_week (omega (arith, length-weeks))
+  week_is k l =
+      filled_used no_week 10 (week_lines s.year x (measured_hours s x t)) k no_week (omega (arith, length_weeks))
       ∙ get_or-map-range_with_len (week_line s.year x (measured_hours s x t)) 1 (last_week s.year) k (k + 1) no_week l (omega arith)
 
-  pub unused-week : (k : ℕ) → last_week s.year ≤ k → week_at (statement_of s x t) k ≡ no_week
+  pub unused_week : (k : ℕ) → last_week s.year ≤ k → week_at (statement_of s x t) k ≡ no_week
   unfolding statement_of paid_for
-  unused-week k l = filled-unused no_week 10 (week_lines s.year x (measured_hours s x t)) k (omega (arith, length-weeks))
+  unused_week k l = filled_unused no_week 10 (week_lines s.year x (measured_hours s x t)) k (omega (arith, length_weeks))

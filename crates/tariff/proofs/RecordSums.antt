@@ -22,30 +22,30 @@ use Rattle.tariff.specs.declared.statement.HourLine.{HourLine}
 use Rattle.tariff.specs.declared.statement.WeekLine.{WeekLine}
 use Rattle.tariff.specs.declared.statement.Statement.{Statement}
 use Rattle.tariff.proofs.HoursOfEvents.{listed_at}
-use Rattle.tariff.proofs.RecordFilled.{statement-is, number_is, sumBy-filled, week_counted, week_within, line-is, unused-line, week-is, unused-week}
+use Rattle.tariff.proofs.RecordFilled.{statement_is, number_is, sumBy_filled, week_counted, week_within, line_is, unused_line, week_is, unused_week}
 
 -- ---- sums over what a filter keeps
 
 module _ {X : Type 0} (f : X → ℕ) (p : X → Bool) where
-  sum-kept-unused : (a : X) → f a ≡ 0 → (n : ℕ) → sum_by f (filter p (replicate n a)) ≡ 0
-  sum-kept-unused a e zero = refl
-  sum-kept-unused a e (suc n) =
+  sum_kept_unused : (a : X) → f a ≡ 0 → (n : ℕ) → sum_by f (filter p (replicate n a)) ≡ 0
+  sum_kept_unused a e zero = refl
+  sum_kept_unused a e (suc n) =
       elim (cases_Bool (p a)) [
-        | inl q ↦ rw q (omega (arith, sum_by-cons f a (filter p (replicate n a)), sum-kept-unused a e n))
-        | inr q ↦ rw q (sum-kept-unused a e n)
+        | inl q ↦ rw q (omega (arith, sum_by-cons f a (filter p (replicate n a)), sum_kept_unused a e n))
+        | inr q ↦ rw q (sum_kept_unused a e n)
       ]
 
-  sum-kept-filled : (a : X) → f a ≡ 0 → (n : ℕ) (xs : List X) → sum_by f (filter p (filled a n xs)) ≡ sum_by f (filter p xs)
-  sum-kept-filled a e n xs =
+  sum_kept_filled : (a : X) → f a ≡ 0 → (n : ℕ) (xs : List X) → sum_by f (filter p (filled a n xs)) ≡ sum_by f (filter p xs)
+  sum_kept_filled a e n xs =
       ap (sum_by f) (filter-append p xs (replicate (n - length xs) a))
-      ∙ omega (arith, sum_by-append f (filter p xs) (filter p (replicate (n - length xs) a)), sum-kept-unused a e (n - length xs))
+      ∙ omega (arith, sum_by-append f (filter p xs) (filter p (replicate (n - length xs) a)), sum_kept_unused a e (n - length xs))
 
-  sum-kept-map : {Y : Type 0} (g : Y → X) (ys : List Y) → sum_by f (filter p (map g ys)) ≡ sum_by (λ y. f (g y)) (filter (λ y. p (g y)) ys)
-  sum-kept-map g [] = refl
-  sum-kept-map g (y ∷ ys) =
+  sum_kept_map : {Y : Type 0} (g : Y → X) (ys : List Y) → sum_by f (filter p (map g ys)) ≡ sum_by (λ y. f (g y)) (filter (λ y. p (g y)) ys)
+  sum_kept_map g [] = refl
+  sum_kept_map g (y ∷ ys) =
       elim (cases_Bool (p (g y))) [
-        | inl q ↦ rw q (omega (arith, sum_by-cons f (g y) (filter p (map g ys)), sum_by-cons (λ v. f (g v)) y (filter (λ v. p (g v)) ys), sum-kept-map g ys))
-        | inr q ↦ rw q (sum-kept-map g ys)
+        | inl q ↦ rw q (omega (arith, sum_by-cons f (g y) (filter p (map g ys)), sum_by-cons (λ v. f (g v)) y (filter (λ v. p (g v)) ys), sum_kept_map g ys))
+        | inr q ↦ rw q (sum_kept_map g ys)
       ]
 
 -- ---- line by line
@@ -77,56 +77,56 @@ module _ (s : Season) (x : Site) (t : Table) where
   abbrev made : Statement
   made = statement_of s x t
 
-  incentive-adds : made.incentive ≡ sum_by (λ l. l.capacity) made.weeks + sum_by (λ l. l.energy) made.hours
+  incentive_adds : made.incentive ≡ sum_by (λ l. l.capacity) made.weeks + sum_by (λ l. l.energy) made.hours
   unfolding statement_of paid_for incentive_of
-  incentive-adds =
-      ap₂ ◌+◌ (sym (sumBy-filled no_week (λ l. l.capacity) refl 10 (week_lines s.year x (measured_hours s x t))))
-      (sym (sumBy-filled no_hour (λ l. l.energy) refl 60 (map priced (measured_hours s x t))))
+  incentive_adds =
+      ap₂ ◌+◌ (sym (sumBy_filled no_week (λ l. l.capacity) refl 10 (week_lines s.year x (measured_hours s x t))))
+      (sym (sumBy_filled no_hour (λ l. l.energy) refl 60 (map priced (measured_hours s x t))))
 
-  charged-adds : made.charged ≡ sum_by (λ l. l.adjustment) made.hours
+  charged_adds : made.charged ≡ sum_by (λ l. l.adjustment) made.hours
   unfolding statement_of paid_for charged_of
-  charged-adds = sym (sumBy-filled no_hour (λ l. l.adjustment) refl 60 (map priced (measured_hours s x t)))
+  charged_adds = sym (sumBy_filled no_hour (λ l. l.adjustment) refl 60 (map priced (measured_hours s x t)))
 
   taken_is : made.taken ≡ min made.charged made.incentive
   unfolding statement_of paid_for
   taken_is = refl
 
-  net-is : made.net ≡ made.incentive - made.taken
+  net_is : made.net ≡ made.incentive - made.taken
   unfolding statement_of paid_for
-  net-is = refl
+  net_is = refl
 
-  paid-is : made.paid ≡ made.net / 1000
+  paid_is : made.paid ≡ made.net / 1000
   unfolding statement_of paid_for
-  paid-is = refl
+  paid_is = refl
 
-  hour-adds : (k : ℕ) → HourAddsUp (line_at made k)
-  hour-adds k =
+  hour_adds : (k : ℕ) → HourAddsUp (line_at made k)
+  hour_adds k =
       elim (cases_lt k (length (season_event_hours s))) [
-        | inl l ↦ subst HourAddsUp (sym (line-is s x t k nowhere l)) (priced_adds_up (measured s x t (get_or (season_event_hours s) k nowhere)))
-        | inr l ↦ subst HourAddsUp (sym (unused-line s x t k l)) unused_hour_adds_up
+        | inl l ↦ subst HourAddsUp (sym (line_is s x t k nowhere l)) (priced_adds_up (measured s x t (get_or (season_event_hours s) k nowhere)))
+        | inr l ↦ subst HourAddsUp (sym (unused_line s x t k l)) unused_hour_adds_up
       ]
 
-  week-adds : (k : ℕ) → WeekAddsUp (week_at made k)
+  week_adds : (k : ℕ) → WeekAddsUp (week_at made k)
   unfolding hours_in_week
-  week-adds k =
+  week_adds k =
       elim (cases_lt k (last_week s.year)) [
-        | inl l ↦ subst WeekAddsUp (sym (week-is s x t k l)) (week_adds_up (nomination_for x (k + 1)) (hours_in_week s.year (k + 1) (measured_hours s x t)) _)
-        | inr l ↦ subst WeekAddsUp (sym (unused-week s x t k l)) unused_week_adds_up
+        | inl l ↦ subst WeekAddsUp (sym (week_is s x t k l)) (week_adds_up (nomination_for x (k + 1)) (hours_in_week s.year (k + 1) (measured_hours s x t)) _)
+        | inr l ↦ subst WeekAddsUp (sym (unused_week s x t k l)) unused_week_adds_up
       ]
 
   -- the nomination on the line of a day's week
-  nominated-on : (d : ℕ) → d < 76 → (week_at made (week_of s.year d - 1)).nomination ≡ nomination_on s x d
-  nominated-on d b =
+  nominated_on : (d : ℕ) → d < 76 → (week_at made (week_of s.year d - 1)).nomination ≡ nomination_on s x d
+  nominated_on d b =
       let l : week_of s.year d - 1 < last_week s.year = omega (arith, week_counted s.year d, week_within s.year d (omega arith)) in
-      ap (λ (m : WeekLine). m.nomination) (week-is s x t (week_of s.year d - 1) l) ∙ ap (nomination_for x) (omega (arith, week_counted s.year d))
+      ap (λ (m : WeekLine). m.nomination) (week_is s x t (week_of s.year d - 1) l) ∙ ap (nomination_for x) (omega (arith, week_counted s.year d))
 
-  shortfall-is : (k : ℕ) → k < length (season_event_hours s)
+  shortfall_is : (k : ℕ) → k < length (season_event_hours s)
       → (line_at made k).shortfall ≡ 1000 * (week_at made (week_of s.year (line_at made k).day - 1)).nomination - (line_at made k).reduction
-  shortfall-is k l =
+  shortfall_is k l =
       let p : EventHour = get_or (season_event_hours s) k nowhere in
       let b = (listed_at s.days 76 k nowhere l).0 in
-      subst (λ (m : HourLine). m.shortfall ≡ 1000 * (week_at made (week_of s.year m.day - 1)).nomination - m.reduction) (sym (line-is s x t k nowhere l))
-      (ap (λ (n : ℕ). 1000 * n - (measured s x t p).reduction) (sym (nominated-on p.day b)))
+      subst (λ (m : HourLine). m.shortfall ≡ 1000 * (week_at made (week_of s.year m.day - 1)).nomination - m.reduction) (sym (line_is s x t k nowhere l))
+      (ap (λ (n : ℕ). 1000 * n - (measured s x t p).reduction) (sym (nominated_on p.day b)))
 
   counted_is : (k : ℕ) → k < last_week s.year
       → (week_at made k).counted ≡ sum_by (λ l. min l.reduction (1200 * (week_at made k).nomination)) (filter (λ l. in_week s.year (k + 1) l.day) made.hours)
@@ -136,28 +136,28 @@ module _ (s : Season) (x : Site) (t : Table) where
       let nominated : ℕ = nomination_for x (k + 1) in
       let f : HourLine → ℕ = λ m. min m.reduction (1200 * nominated) in
       let q : HourLine → Bool = λ m. in_week s.year (k + 1) m.day in
-      ap (λ (m : WeekLine). m.counted) (week-is s x t k l)
-      ∙ sym (sum-kept-map f q priced ms)
-      ∙ sym (sum-kept-filled f q no_hour (omega arith) 60 (map priced ms))
-      ∙ ap (λ (n : ℕ). sum_by (λ (m : HourLine). min m.reduction (1200 * n)) (filter q made.hours)) (sym (ap (λ (m : WeekLine). m.nomination) (week-is s x t k l)))
+      ap (λ (m : WeekLine). m.counted) (week_is s x t k l)
+      ∙ sym (sum_kept_map f q priced ms)
+      ∙ sym (sum_kept_filled f q no_hour (omega arith) 60 (map priced ms))
+      ∙ ap (λ (n : ℕ). sum_by (λ (m : HourLine). min m.reduction (1200 * n)) (filter q made.hours)) (sym (ap (λ (m : WeekLine). m.nomination) (week_is s x t k l)))
 
 made_adds_up : (s : Season) (x : Site) (t : Table) → AddsUp s.year (statement_of s x t) (length (season_event_hours s))
 made_adds_up s x t = record {
-  incentive = incentive-adds s x t;
-  charged = charged-adds s x t;
+  incentive = incentive_adds s x t;
+  charged = charged_adds s x t;
   taken = taken_is s x t;
-  net = net-is s x t;
-  paid = paid-is s x t;
-  lines = λ k l. hour-adds s x t k;
-  weeks = λ k l. week-adds s x t k;
-  shortfalls = shortfall-is s x t;
+  net = net_is s x t;
+  paid = paid_is s x t;
+  lines = λ k l. hour_adds s x t k;
+  weeks = λ k l. week_adds s x t k;
+  shortfalls = shortfall_is s x t;
   counted = counted_is s x t;
 }
 
 -- of every season, sound or not
 pub every_statement_adds_up : (s : Season) → TheStatementAddsUp s
 every_statement_adds_up s site t x n e =
-    subst (λ (y : Statement). AddsUp s.year y n) (statement-is s site t x n e)
+    subst (λ (y : Statement). AddsUp s.year y n) (statement_is s site t x n e)
     (subst (λ (m : ℕ). AddsUp s.year (statement_of s (site_at s site) t) m) (number_is s site t x n e) (made_adds_up s (site_at s site) t))
 
 pub the_statement_adds_up_lem : OfSoundSeasons TheStatementAddsUp

@@ -34,29 +34,29 @@ in_week_none false n h = refl
 
 -- no day has an event
 module _ (s : Season) (none : (d : ℕ) → day_at s d ≡ NoEvent) where
-  no-hours : (d : ℕ) → day_hours (day_at s d) ≡ 0
-  no-hours d = ap day_hours (none d)
+  no_hours : (d : ℕ) → day_hours (day_at s d) ≡ 0
+  no_hours d = ap day_hours (none d)
 
-  no-week-hours : (w : ℕ) → hours_of_week s w ≡ 0
-  no-week-hours w =
+  no_week_hours : (w : ℕ) → hours_of_week s w ≡ 0
+  no_week_hours w =
       week_hours_total s.year w s.days 76
-      ∙ total_none (λ d. cond (in_week s.year w d) (day_hours (day_at s d)) 0) 76 (λ d. in_week_none (in_week s.year w d) (day_hours (day_at s d)) (no-hours d))
+      ∙ total_none (λ d. cond (in_week s.year w d) (day_hours (day_at s d)) 0) 76 (λ d. in_week_none (in_week s.year w d) (day_hours (day_at s d)) (no_hours d))
 
-  no-standing-hours : standing_hours s ≡ 0
-  no-standing-hours = hours_total s.days 76 ∙ total_none (λ d. day_hours (day_at s d)) 76 no-hours
+  no_standing_hours : standing_hours s ≡ 0
+  no_standing_hours = hours_total s.days 76 ∙ total_none (λ d. day_hours (day_at s d)) 76 no_hours
 
-  eventless-sound : length s.days ≡ 76 → length s.sites ≤ 64 → All Whole s.sites → Sound s
-  eventless-sound summer few whole = record {
+  eventless_sound : length s.days ≡ 76 → length s.sites ≤ 64 → All Whole s.sites → Sound s
+  eventless_sound summer few whole = record {
     summer = summer;
     events = λ d h. absurd (false≢true (sym (ap announced (none d)) ∙ h));
-    weekly = λ w. omega (arith, no-week-hours w);
-    overall = omega (arith, no-standing-hours);
+    weekly = λ w. omega (arith, no_week_hours w);
+    overall = omega (arith, no_standing_hours);
     few = few;
     whole = whole;
   }
 
 pub opened_sound : (old : Season) (year : ℕ) → Sound (opened old year)
-opened_sound old year = eventless-sound (opened old year) (no_event_at 76) (length-replicate 76 NoEvent) (omega arith) tt
+opened_sound old year = eventless_sound (opened old year) (no_event_at 76) (length-replicate 76 NoEvent) (omega arith) tt
 
 -- ---- the days as they were
 
@@ -106,52 +106,52 @@ cond_grows true x y more h = h refl
 cond_grows false x y more h = omega arith
 
 module _ (s : Season) (m : ℕ) (e : Day) where
-  other-day : (d : ℕ) → (d ≡ day_of m → ⊥) → day_at (with_day s m e) d ≡ day_at s d
-  other-day d h = get_or-set_other s.days (day_of m) d e NoEvent h
+  other_day : (d : ℕ) → (d ≡ day_of m → ⊥) → day_at (with_day s m e) d ≡ day_at s d
+  other_day d h = get_or-set_other s.days (day_of m) d e NoEvent h
 
-  own-day : day_of m < length s.days → day_at (with_day s m e) (day_of m) ≡ e
-  own-day h = get_or-set_same s.days (day_of m) e NoEvent h
+  own_day : day_of m < length s.days → day_at (with_day s m e) (day_of m) ≡ e
+  own_day h = get_or-set_same s.days (day_of m) e NoEvent h
 
-  other-hours : (d : ℕ) → (d ≡ day_of m → ⊥) → day_hours (day_at (with_day s m e) d) ≡ day_hours (day_at s d)
-  other-hours d h = ap day_hours (other-day d h)
+  other_hours : (d : ℕ) → (d ≡ day_of m → ⊥) → day_hours (day_at (with_day s m e) d) ≡ day_hours (day_at s d)
+  other_hours d h = ap day_hours (other_day d h)
 
-  own-hours : day_of m < length s.days → day_hours (day_at (with_day s m e) (day_of m)) ≡ day_hours e
-  own-hours h = ap day_hours (own-day h)
+  own_hours : day_of m < length s.days → day_hours (day_at (with_day s m e) (day_of m)) ≡ day_hours e
+  own_hours h = ap day_hours (own_day h)
 
-  week-grows : (w more : ℕ)
+  week_grows : (w more : ℕ)
       → cond (in_week s.year w (day_of m)) (day_hours (day_at (with_day s m e) (day_of m))) 0 ≤ cond (in_week s.year w (day_of m)) (day_hours (day_at s (day_of m))) 0 + more
       → hours_of_week (with_day s m e) w ≤ hours_of_week s w + more
-  week-grows w more at =
+  week_grows w more at =
       rw (week_hours_total s.year w s.days 76, week_hours_total s.year w (with_day s m e).days 76)
       (total_bump (λ d. cond (in_week s.year w d) (day_hours (day_at (with_day s m e) d)) 0) (λ d. cond (in_week s.year w d) (day_hours (day_at s d)) 0) (day_of m) more 76
-      (λ d h. le_of_eq (ap (λ (n : ℕ). cond (in_week s.year w d) n 0) (other-hours d h))) at)
+      (λ d h. le_of_eq (ap (λ (n : ℕ). cond (in_week s.year w d) n 0) (other_hours d h))) at)
 
-  hours-grow : (more : ℕ) → day_hours (day_at (with_day s m e) (day_of m)) ≤ day_hours (day_at s (day_of m)) + more → standing_hours (with_day s m e) ≤ standing_hours s + more
-  hours-grow more at =
+  hours_grow : (more : ℕ) → day_hours (day_at (with_day s m e) (day_of m)) ≤ day_hours (day_at s (day_of m)) + more → standing_hours (with_day s m e) ≤ standing_hours s + more
+  hours_grow more at =
       rw (hours_total s.days 76, hours_total (with_day s m e).days 76)
-      (total_bump (λ d. day_hours (day_at (with_day s m e) d)) (λ d. day_hours (day_at s d)) (day_of m) more 76 (λ d h. le_of_eq (other-hours d h)) at)
+      (total_bump (λ d. day_hours (day_at (with_day s m e) d)) (λ d. day_hours (day_at s d)) (day_of m) more 76 (λ d h. le_of_eq (other_hours d h)) at)
 
-  day-sound : (more : ℕ) → Sound s → day_of m < length s.days
+  day_sound : (more : ℕ) → Sound s → day_of m < length s.days
       → (announced e ≡ true → Fit s.year (day_of m) (event_of e))
       → day_hours (day_at (with_day s m e) (day_of m)) ≤ day_hours (day_at s (day_of m)) + more
       → hours_of_week s (week_of s.year (day_of m)) + more ≤ 15 → standing_hours s + more ≤ 60
       → Sound (with_day s m e)
-  day-sound more a l fit grows week all = record {
+  day_sound more a l fit grows week all = record {
     summer = length-set s.days (day_of m) e ∙ a.summer;
     events = λ d h. elim (cases_eq d (day_of m)) [
       | inl q ↦
-          let g : announced e ≡ true = rw (q, own-day l) at h in
-          rw (q, own-day l) (fit g)
-      | inr q ↦ rw (other-day d q) (a.events d (rw (other-day d q) at h))
+          let g : announced e ≡ true = rw (q, own_day l) at h in
+          rw (q, own_day l) (fit g)
+      | inr q ↦ rw (other_day d q) (a.events d (rw (other_day d q) at h))
     ];
     weekly = λ w. elim (cases_eq (week_of s.year (day_of m)) w) [
       | inl q ↦ subst (λ (k : ℕ). hours_of_week (with_day s m e) k ≤ 15) q
-          (le_trans (week-grows (week_of s.year (day_of m)) more (cond_grows (in_week s.year (week_of s.year (day_of m)) (day_of m)) (day_hours (day_at (with_day s m e) (day_of m))) (day_hours (day_at s (day_of m))) more (λ _. grows))) week)
+          (le_trans (week_grows (week_of s.year (day_of m)) more (cond_grows (in_week s.year (week_of s.year (day_of m)) (day_of m)) (day_hours (day_at (with_day s m e) (day_of m))) (day_hours (day_at s (day_of m))) more (λ _. grows))) week)
       | inr q ↦
-          le_trans (week-grows w 0 (cond_grows (in_week s.year w (day_of m)) (day_hours (day_at (with_day s m e) (day_of m))) (day_hours (day_at s (day_of m))) 0 (λ b. absurd (q (eqb-true (week_of s.year (day_of m)) w b)))))
+          le_trans (week_grows w 0 (cond_grows (in_week s.year w (day_of m)) (day_hours (day_at (with_day s m e) (day_of m))) (day_hours (day_at s (day_of m))) 0 (λ b. absurd (q (eqb-true (week_of s.year (day_of m)) w b)))))
           (omega (arith, a.weekly w))
     ];
-    overall = le_trans (hours-grow more grows) all;
+    overall = le_trans (hours_grow more grows) all;
     few = a.few;
     whole = a.whole;
   }
@@ -160,7 +160,7 @@ announced_sound : (s : Season) (m start len : ℕ) → Sound s → Passed (annou
 announced_sound s m start len a p =
     let e : Day = Standing (record { start = start; length = len; notice = m }) in
     let inside : day_of m < length s.days = grind (arith, nat_tests, a.summer) in
-    day-sound s m e len a inside (λ _. fit) (omega (arith, own-hours s m e inside)) (grind (arith, nat_tests)) (grind (arith, nat_tests))
+    day_sound s m e len a inside (λ _. fit) (omega (arith, own_hours s m e inside)) (grind (arith, nat_tests)) (grind (arith, nat_tests))
   where
     fit : Fit s.year (day_of m) (record { start = start; length = len; notice = m })
     fit = grind (arith, nat_tests)
@@ -176,7 +176,7 @@ revoked_sound s m a p =
     let e : Day = Revoked (event_of (day_at s (day_of m))) in
     let inside : day_of m < length s.days = grind (arith, nat_tests, a.summer) in
     let stands : standing s (day_of m) ≡ true = grind (arith, nat_tests) in
-    day-sound s m e 0 a inside (λ _. a.events (day_of m) (stood (day_at s (day_of m)) stands)) (omega (arith, own-hours s m e inside))
+    day_sound s m e 0 a inside (λ _. a.events (day_of m) (stood (day_at s (day_of m)) stands)) (omega (arith, own_hours s m e inside))
     (omega (arith, a.weekly (week_of s.year (day_of m)))) (omega (arith, a.overall))
 
 -- ---- any call, and any list of calls

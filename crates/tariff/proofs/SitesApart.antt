@@ -70,36 +70,36 @@ another_agrees i s Close e = absurd (false≢true e)
 -- ---- any other call gets one answer in both, and leaves them alike
 
 module _ (i : ℕ) (s t : Season) (a : Agree i s t) where
-  same-year : s.year ≡ t.year
-  same-year = ap (λ (u : Season). u.year) a.same
+  same_year : s.year ≡ t.year
+  same_year = ap (λ (u : Season). u.year) a.same
 
-  same-closed : s.closed ≡ t.closed
-  same-closed = ap (λ (u : Season). u.closed) a.same
+  same_closed : s.closed ≡ t.closed
+  same_closed = ap (λ (u : Season). u.closed) a.same
 
-  same-clock : s.clock ≡ t.clock
-  same-clock = ap (λ (u : Season). u.clock) a.same
+  same_clock : s.clock ≡ t.clock
+  same_clock = ap (λ (u : Season). u.clock) a.same
 
   same_days : s.days ≡ t.days
   same_days = ap (λ (u : Season). u.days) a.same
 
-  enrol-same : (m k kw : ℕ) → enrol_answer s m k kw ≡ enrol_answer t m k kw
-  enrol-same m k kw = cc (same-closed, same-clock)
+  enrol_same : (m k kw : ℕ) → enrol_answer s m k kw ≡ enrol_answer t m k kw
+  enrol_same m k kw = cc (same_closed, same_clock)
 
-  announce-same : (m start len : ℕ) → announce_answer s m start len ≡ announce_answer t m start len
-  announce-same m start len = cc (same-year, same-closed, same-clock, same_days)
+  announce_same : (m start len : ℕ) → announce_answer s m start len ≡ announce_answer t m start len
+  announce_same m start len = cc (same_year, same_closed, same_clock, same_days)
 
-  revoke-same : (m : ℕ) → revoke_answer s m ≡ revoke_answer t m
-  revoke-same m = cc (same-closed, same-clock, same_days)
+  revoke_same : (m : ℕ) → revoke_answer s m ≡ revoke_answer t m
+  revoke_same m = cc (same_closed, same_clock, same_days)
 
-  close-same : close_answer s ≡ close_answer t
-  close-same = cc (same-closed, same_days)
+  close_same : close_answer s ≡ close_answer t
+  close_same = cc (same_closed, same_days)
 
 -- a nomination of the site's own
 nominate_same : (i : ℕ) (s t : Season) → Agree i s t → (m w kw : ℕ) → nominate_answer s m i w kw ≡ nominate_answer t m i w kw
-nominate_same zero s t a m w kw = cc (same-closed zero s t a, same-clock zero s t a)
+nominate_same zero s t a m w kw = cc (same_closed zero s t a, same_clock zero s t a)
 nominate_same (suc i) s t a m w kw =
     let o : site_at s (suc i) ≡ site_at t (suc i) = a.own (omega arith) in
-    cc (same-year (suc i) s t a, same-closed (suc i) s t a, same-clock (suc i) s t a, same_days (suc i) s t a)
+    cc (same_year (suc i) s t a, same_closed (suc i) s t a, same_clock (suc i) s t a, same_days (suc i) s t a)
 
 -- one place of two lists as long as each other, after one element more or a store there
 more_same : (xs ys : List Site) (k : ℕ) (x d : Site) → length xs ≡ length ys → get_or xs k d ≡ get_or ys k d → get_or (xs ++ x ∷ []) k d ≡ get_or (ys ++ x ∷ []) k d
@@ -117,46 +117,46 @@ set_same (x' ∷ xs) (y ∷ ys) zero x d n e = refl
 set_same (x' ∷ xs) (y ∷ ys) (suc k) x d n e = set_same xs ys k x d (omega arith) e
 
 module _ (i : ℕ) (s t : Season) (a : Agree i s t) where
-  enrolled-agree : (k kw : ℕ) → Agree i (enrolled s k kw) (enrolled t k kw)
-  enrolled-agree k kw = record {
+  enrolled_agree : (k kw : ℕ) → Agree i (enrolled s k kw) (enrolled t k kw)
+  enrolled_agree k kw = record {
     same = a.same;
     many = simp length-append (rw a.many);
     own = λ h. more_same s.sites t.sites (i - 1) (enrolled_site (kind_of k) kw) no_site a.many (a.own h);
   }
 
-  nominated-agree : (w kw : ℕ) → Agree i (nominated s i w kw) (nominated t i w kw)
-  nominated-agree w kw = record {
+  nominated_agree : (w kw : ℕ) → Agree i (nominated s i w kw) (nominated t i w kw)
+  nominated_agree w kw = record {
     same = a.same;
     many = simp length-set a.many;
     own = λ h. rw (a.own h) (set_same s.sites t.sites (i - 1) (nominated_site (site_at t i) w kw) no_site a.many (a.own h));
   }
 
-  announced-agree : (m start len : ℕ) → Agree i (with_event s m start len) (with_event t m start len)
-  announced-agree m start len = record { same = ap (λ (u : Season). with_event u m start len) a.same; many = a.many; own = a.own }
+  announced_agree : (m start len : ℕ) → Agree i (with_event s m start len) (with_event t m start len)
+  announced_agree m start len = record { same = ap (λ (u : Season). with_event u m start len) a.same; many = a.many; own = a.own }
 
-  revoked-agree : (m : ℕ) → Agree i (without_event s m) (without_event t m)
-  revoked-agree m = record { same = ap (λ (u : Season). without_event u m) a.same; many = a.many; own = a.own }
+  revoked_agree : (m : ℕ) → Agree i (without_event s m) (without_event t m)
+  revoked_agree m = record { same = ap (λ (u : Season). without_event u m) a.same; many = a.many; own = a.own }
 
-  shut-agree : Agree i (shut s) (shut t)
-  shut-agree = record { same = ap shut a.same; many = a.many; own = a.own }
+  shut_agree : Agree i (shut s) (shut t)
+  shut_agree = record { same = ap shut a.same; many = a.many; own = a.own }
 
-  other-answer : (c : Call) → for_another i c ≡ false → answer s c ≡ answer t c
-  other-answer (Enrol m k kw) e = ap (as_answer SiteNumber) (enrol-same i s t a m k kw)
-  other-answer (Nominate m j w kw) e =
+  other_answer : (c : Call) → for_another i c ≡ false → answer s c ≡ answer t c
+  other_answer (Enrol m k kw) e = ap (as_answer SiteNumber) (enrol_same i s t a m k kw)
+  other_answer (Nominate m j w kw) e =
       let j≡i : j ≡ i = eqb-true j i (not-false (eqb j i) e) in
       rw j≡i (ap (as_answer Week) (nominate_same i s t a m w kw))
-  other-answer (Announce m start len) e = ap (as_answer Announced) (announce-same i s t a m start len)
-  other-answer (Revoke m) e = ap (as_answer RevokedHours) (revoke-same i s t a m)
-  other-answer Close e = ap (as_answer closed_with) (close-same i s t a)
+  other_answer (Announce m start len) e = ap (as_answer Announced) (announce_same i s t a m start len)
+  other_answer (Revoke m) e = ap (as_answer RevokedHours) (revoke_same i s t a m)
+  other_answer Close e = ap (as_answer closed_with) (close_same i s t a)
 
-  other-agrees : (c : Call) → for_another i c ≡ false → Agree i (next s c) (next t c)
-  other-agrees (Enrol m k kw) e = kept_both (Agree i) s t (Enrol m k kw) _ _ (other-answer (Enrol m k kw) e) a (λ _. enrolled-agree k kw)
-  other-agrees (Nominate m j w kw) e =
+  other_agrees : (c : Call) → for_another i c ≡ false → Agree i (next s c) (next t c)
+  other_agrees (Enrol m k kw) e = kept_both (Agree i) s t (Enrol m k kw) _ _ (other_answer (Enrol m k kw) e) a (λ _. enrolled_agree k kw)
+  other_agrees (Nominate m j w kw) e =
       let j≡i : j ≡ i = eqb-true j i (not-false (eqb j i) e) in
-      rw j≡i (kept_both (Agree i) s t (Nominate m i w kw) _ _ (ap (as_answer Week) (nominate_same i s t a m w kw)) a (λ x. nominated-agree (week_named w x) kw))
-  other-agrees (Announce m start len) e = kept_both (Agree i) s t (Announce m start len) _ _ (other-answer (Announce m start len) e) a (λ _. announced-agree m start len)
-  other-agrees (Revoke m) e = kept_both (Agree i) s t (Revoke m) _ _ (other-answer (Revoke m) e) a (λ _. revoked-agree m)
-  other-agrees Close e = kept_both (Agree i) s t Close _ _ (other-answer Close e) a (λ _. shut-agree)
+      rw j≡i (kept_both (Agree i) s t (Nominate m i w kw) _ _ (ap (as_answer Week) (nominate_same i s t a m w kw)) a (λ x. nominated_agree (week_named w x) kw))
+  other_agrees (Announce m start len) e = kept_both (Agree i) s t (Announce m start len) _ _ (other_answer (Announce m start len) e) a (λ _. announced_agree m start len)
+  other_agrees (Revoke m) e = kept_both (Agree i) s t (Revoke m) _ _ (other_answer (Revoke m) e) a (λ _. revoked_agree m)
+  other_agrees Close e = kept_both (Agree i) s t Close _ _ (other_answer Close e) a (λ _. shut_agree)
 
 -- ---- a list of calls, and the same list without the nominations for other sites
 
@@ -168,8 +168,8 @@ without_agree i s t (c ∷ cs) a =
     elim (cases_Bool (for_another i c)) [
       | inl e ↦ rw e (without_agree i (next s c) t cs (agree_trans (another_agrees i s c e) a))
       | inr e ↦
-          let ih = without_agree i (next s c) (next t c) cs (other-agrees i s t a c e) in
-          rw e (ih.0, ap₂ ◌∷◌ (other-answer i s t a c e) ih.1)
+          let ih = without_agree i (next s c) (next t c) cs (other_agrees i s t a c e) in
+          rw e (ih.0, ap₂ ◌∷◌ (other_answer i s t a c e) ih.1)
     ]
 
 pub sites_stand_apart_lem : SitesStandApart

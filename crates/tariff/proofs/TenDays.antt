@@ -9,18 +9,18 @@ use Rattle.tariff.specs.Counting.{count}
 use Rattle.tariff.specs.Season.{Season, standing}
 use Rattle.tariff.specs.Sound.{Sound}
 use Rattle.tariff.specs.TenDays.{Late, ComparisonDaysAreLatest, TenComparisonDays}
-use Rattle.tariff.proofs.Latest.{latest-length, latest-falling, latest-late, late-latest}
+use Rattle.tariff.proofs.Latest.{latest_length, latest_falling, latest_late, late_latest}
 use Rattle.tariff.proofs.Runs.{standing_fit}
 use Rattle.tariff.proofs.Totals.{count_same, count_least}
 
 pub comparison_days_are_latest : ComparisonDaysAreLatest
 unfolding comparison_days
 comparison_days_are_latest s d =
-    (latest-falling (comparable s) _ d, λ k. (late k, λ l. late-latest (comparable s) k _ d l.before (grind (arith, nat_tests)) (omega (arith, l.few_between))))
+    (latest_falling (comparable s) _ d, λ k. (late k, λ l. late_latest (comparable s) k _ d l.before (grind (arith, nat_tests)) (omega (arith, l.few_between))))
   where
     late : (k : ℕ) → Has (comparison_days s d) k → Late s d k
     late k h =
-        let l = latest-late (comparable s) k _ d h in
+        let l = latest_late (comparable s) k _ d h in
         let e : comparable s k ≡ true = l.1 in
         record { before = l.0; on_business = grind (arith, nat_tests); no_event = grind (arith, nat_tests); few_between = omega (arith, l.2) }
 
@@ -51,26 +51,26 @@ ten_weekdays (suc (suc (suc (suc (suc (suc zero)))))) h = refl
 ten_weekdays (suc (suc (suc (suc (suc (suc (suc r))))))) h = let z : ⊥ = omega arith in absurd z
 
 module _ (s : Season) (sound : Sound s) where
-  early-free : (k : ℕ) → k < 14 → standing s k ≡ false
-  early-free k h =
+  early_free : (k : ℕ) → k < 14 → standing s k ≡ false
+  early_free k h =
       elim (cases_Bool (standing s k)) [
         | inl e ↦ let f = standing_fit s k sound e in let z : ⊥ = omega arith in absurd z
         | inr e ↦ e
       ]
 
-  early-comparable : (k : ℕ) → k < 14 → comparable s k ≡ ltb ((weekday s.year 0 + k) % 7) 5
+  early_comparable : (k : ℕ) → k < 14 → comparable s k ≡ ltb ((weekday s.year 0 + k) % 7) 5
   unfolding business workweek_day
-  early-comparable k h = rw (early-free k h, holiday_late s.year k h, weekday_on s.year k) (and-trues (ltb ((weekday s.year 0 + k) % 7) 5))
+  early_comparable k h = rw (early_free k h, holiday_late s.year k h, weekday_on s.year k) (and_trues (ltb ((weekday s.year 0 + k) % 7) 5))
     where
-      and-trues : (b : Bool) → ((b && not false) && not false) ≡ b
-      and-trues true = refl
-      and-trues false = refl
+      and_trues : (b : Bool) → ((b && not false) && not false) ≡ b
+      and_trues true = refl
+      and_trues false = refl
 
-  early-ten : count (comparable s) 14 ≡ 10
-  early-ten = count_same (comparable s) (λ k. ltb ((weekday s.year 0 + k) % 7) 5) 14 early-comparable ∙ ten_weekdays (weekday s.year 0) (weekday_low s.year)
+  early_ten : count (comparable s) 14 ≡ 10
+  early_ten = count_same (comparable s) (λ k. ltb ((weekday s.year 0 + k) % 7) 5) 14 early_comparable ∙ ten_weekdays (weekday s.year 0) (weekday_low s.year)
 
 pub ten_comparison_days : TenComparisonDays
 unfolding comparison_days
 ten_comparison_days s sound d stood =
     let f = standing_fit s d sound stood in
-    simp latest-length (omega (arith, early-ten s sound, count_least (comparable s) 14 d f.opens))
+    simp latest_length (omega (arith, early_ten s sound, count_least (comparable s) 14 d f.opens))

@@ -18,11 +18,11 @@ ascii_mark Blank b e = ascii_blank b e
 ascii_mark Comma b e = grind (arith, nat_tests)
 
 module _ (mark : Mark) (bs : List ℕ) (i : ℕ) (lt : i < length bs) (e : stops_at mark (get_or bs i 0) ≡ true) where
-  pub boundary-before-mark : IsCharBoundary bs i
-  boundary-before-mark = IsCharBoundary-before_ascii bs i lt (ascii_mark mark (get_or bs i 0) e)
+  pub boundary_before_mark : IsCharBoundary bs i
+  boundary_before_mark = IsCharBoundary-before_ascii bs i lt (ascii_mark mark (get_or bs i 0) e)
 
-  pub boundary-after-mark : IsUtf8 bs → IsCharBoundary bs (i + 1)
-  boundary-after-mark u = IsCharBoundary-after_ascii bs i u lt (ascii_mark mark (get_or bs i 0) e)
+  pub boundary_after_mark : IsUtf8 bs → IsCharBoundary bs (i + 1)
+  boundary_after_mark u = IsCharBoundary-after_ascii bs i u lt (ascii_mark mark (get_or bs i 0) e)
 
 -- what is seen of the bytes of a text holds of the text
 pub in_text : (mark : Mark) (i : ℕ) {bytes text : List ℕ} {seen : Bool} → bytes ≡ text → seen ≡ stops_at mark (get_or bytes i 0) → stops_at mark (get_or text i 0) ≡ seen

@@ -43,28 +43,28 @@ module _ (word : List ℕ) where
   unshaped e = sym (cond-false (shaped word) _ None (sym e))
 
   module _ (whole : true ≡ shaped word) where
-    whole-stamp : {x y : Option ℕ} → x ≡ y → x ≡ cond (shaped word) y None
-    whole-stamp {x} {y} e = e ∙ sym (cond-true (shaped word) y None (sym whole))
+    whole_stamp : {x y : Option ℕ} → x ≡ y → x ≡ cond (shaped word) y None
+    whole_stamp {x} {y} e = e ∙ sym (cond-true (shaped word) y None (sym whole))
 
-    pub no-month : None ≡ field word 0 → None ≡ stamp_of word
+    pub no_month : None ≡ field word 0 → None ≡ stamp_of word
     unfolding stamp_of
-    no-month e = whole-stamp (then_none (field word 0) _ e)
+    no_month e = whole_stamp (then_none (field word 0) _ e)
 
-    pub no-day-number : {a : ℕ} → Some a ≡ field word 0 → None ≡ field word 3 → None ≡ stamp_of word
+    pub no_day_number : {a : ℕ} → Some a ≡ field word 0 → None ≡ field word 3 → None ≡ stamp_of word
     unfolding stamp_of
-    no-day-number a e = whole-stamp (then_at (field word 0) _ a (then_none (field word 3) _ e))
+    no_day_number a e = whole_stamp (then_at (field word 0) _ a (then_none (field word 3) _ e))
 
     pub no_hour : {a b : ℕ} → Some a ≡ field word 0 → Some b ≡ field word 3 → None ≡ field word 6 → None ≡ stamp_of word
     unfolding stamp_of
-    no_hour a b e = whole-stamp (then_at (field word 0) _ a (then_at (field word 3) _ b (then_none (field word 6) _ e)))
+    no_hour a b e = whole_stamp (then_at (field word 0) _ a (then_at (field word 3) _ b (then_none (field word 6) _ e)))
 
-    pub no-minute-number : {a b c : ℕ} → Some a ≡ field word 0 → Some b ≡ field word 3 → Some c ≡ field word 6 → None ≡ field word 9 → None ≡ stamp_of word
+    pub no_minute_number : {a b c : ℕ} → Some a ≡ field word 0 → Some b ≡ field word 3 → Some c ≡ field word 6 → None ≡ field word 9 → None ≡ stamp_of word
     unfolding stamp_of
-    no-minute-number a b c e = whole-stamp (then_at (field word 0) _ a (then_at (field word 3) _ b (then_at (field word 6) _ c (then_none (field word 9) _ e))))
+    no_minute_number a b c e = whole_stamp (then_at (field word 0) _ a (then_at (field word 3) _ b (then_at (field word 6) _ c (then_none (field word 9) _ e))))
 
-    pub at-stamp : {a b c d : ℕ} → Some a ≡ field word 0 → Some b ≡ field word 3 → Some c ≡ field word 6 → Some d ≡ field word 9 → moment_of a b c d ≡ stamp_of word
+    pub at_stamp : {a b c d : ℕ} → Some a ≡ field word 0 → Some b ≡ field word 3 → Some c ≡ field word 6 → Some d ≡ field word 9 → moment_of a b c d ≡ stamp_of word
     unfolding stamp_of
-    at-stamp a b c d = whole-stamp (then_at (field word 0) _ a (then_at (field word 3) _ b (then_at (field word 6) _ c (then_at (field word 9) _ d refl))))
+    at_stamp a b c d = whole_stamp (then_at (field word 0) _ a (then_at (field word 3) _ b (then_at (field word 6) _ c (then_at (field word 9) _ d refl))))
 
 -- ---- no stamp names a moment after the summer
 
@@ -132,7 +132,7 @@ written_stamps_read_back_lem m h =
     sym (
     ap Some (omega arith)
     ∙ at_moment (month_of d) (day_in_month d) (m % 1440 / 60) (m % 60) (day_back d l) (minute_back m)
-    ∙ at-stamp (stamp_text m) refl (two_digits_back (month_of d) (month_two d)) (two_digits_back (day_in_month d) (day_two d l)) (two_digits_back (m % 1440 / 60) (omega arith)) (two_digits_back (m % 60) (omega arith)))
+    ∙ at_stamp (stamp_text m) refl (two_digits_back (month_of d) (month_two d)) (two_digits_back (day_in_month d) (day_two d l)) (two_digits_back (m % 1440 / 60) (omega arith)) (two_digits_back (m % 60) (omega arith)))
 
 -- ---- a word that is read is its moment written
 

@@ -80,22 +80,22 @@ small : (n : ℕ) → n ≤ 4294967295 → n < 2 ^ 64
 small n h = omega arith
 
 module _ (n : ℕ) (h : n ≤ 4294967295) where
-  pub digits-numeral : all_ascii_digits (decimal n) ≡ true
-  digits-numeral = digits_decimal numerals n (small n h)
+  pub digits_numeral : all_ascii_digits (decimal n) ≡ true
+  digits_numeral = digits_decimal numerals n (small n h)
 
-  pub numeral-some : 0 < length (decimal n)
-  numeral-some = decimal_nonempty n (small n h)
+  pub numeral_some : 0 < length (decimal n)
+  numeral_some = decimal_nonempty n (small n h)
 
-  pub numeral-value : number_from 0 (decimal n) ≡ n
-  numeral-value = digits_value-decimal numerals n (small n h)
+  pub numeral_value : number_from 0 (decimal n) ≡ n
+  numeral_value = digits_value-decimal numerals n (small n h)
 
-  pub free-numeral : (p : ℕ → Bool) → Spares p → Free p (decimal n)
-  free-numeral p s = free_digits p s (decimal n) digits-numeral
+  pub free_numeral : (p : ℕ → Bool) → Spares p → Free p (decimal n)
+  free_numeral p s = free_digits p s (decimal n) digits_numeral
 
   -- a numeral reads back
-  pub number-back : number_of (decimal n) ≡ Ok n
+  pub number_back : number_of (decimal n) ≡ Ok n
   unfolding number_after
-  number-back = sym (number_of_some (decimal n) numeral-some) ∙ (rw (digits-numeral, numeral-value, le-leb n 4294967295 h) refl)
+  number_back = sym (number_of_some (decimal n) numeral_some) ∙ (rw (digits_numeral, numeral_value, le-leb n 4294967295 h) refl)
 
 unblanked_word : (w rest : List ℕ) → Free blank w → 0 < length w → unblanked (w ++ rest) ≡ w ++ rest
 unfolding unblanked

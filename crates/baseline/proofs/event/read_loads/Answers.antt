@@ -4,7 +4,7 @@ use Rattle.tariff.specs.declared.fault.Use.TheVariants.{EventDay}
 use Rattle.baseline.specs.Days.{day_read}
 use Rattle.baseline.specs.Measuring.{loads_read}
 use Rattle.baseline.proofs.TenDays.{read_of}
-use Rattle.baseline.proofs.Measures.{gap-before, gap-own, whole, measured-told}
+use Rattle.baseline.proofs.Measures.{gap_before, gap_own, whole, measured_told}
 use Rattle.baseline.proofs.event.read_loads.Goals as goal
 
 pub returns-in_err-original : goal.returns-in_err-original
@@ -13,10 +13,10 @@ returns-in_err-original g c =
     let days = c.args.days.now.days in
     let e = c.args.event.now in
     let p = err_from_is_err_and c.from_residual.result c.from_residual.ensures.1 in
-    let told : c.from_residual.result ≡ loads_read t days e.day = p.1 ∙ ap Err p.2 ∙ gap-before t days e.day _ c.in_err-original.ensures.answer in
+    let told : c.from_residual.result ≡ loads_read t days e.day = p.1 ∙ ap Err p.2 ∙ gap_before t days e.day _ c.in_err-original.ensures.answer in
     record {
       answer = told;
-      measured = measured-told t days e (omega arith) (omega arith) c.from_residual.result told;
+      measured = measured_told t days e (omega arith) (omega arith) c.from_residual.result told;
       small = IfOk-from_err c.from_residual.result _ c.from_residual.ensures.0;
       keeps = c.original_baseline.ensures.keeps;
     }
@@ -30,10 +30,10 @@ returns-in_err-own g c =
     let kept = c.original_baseline.ensures.keeps in
     let here : Err f ≡ day_read t EventDay e.day = read_of _ t EventDay e.day (Err f) kept c.in_err-own.ensures.answer in
     let p = err_from_is_err_and c.from_residual-in_err-own.result c.from_residual-in_err-own.ensures.1 in
-    let told : c.from_residual-in_err-own.result ≡ loads_read t days e.day = p.1 ∙ ap Err p.2 ∙ gap-own t days e.day c.in_ok-original.original f c.in_ok-original.ensures.answer here in
+    let told : c.from_residual-in_err-own.result ≡ loads_read t days e.day = p.1 ∙ ap Err p.2 ∙ gap_own t days e.day c.in_ok-original.original f c.in_ok-original.ensures.answer here in
     record {
       answer = told;
-      measured = measured-told t days e (omega arith) (omega arith) c.from_residual-in_err-own.result told;
+      measured = measured_told t days e (omega arith) (omega arith) c.from_residual-in_err-own.result told;
       small = IfOk-from_err c.from_residual-in_err-own.result _ c.from_residual-in_err-own.ensures.0;
       keeps = c.read_own.ensures.keeps ∙ kept;
     }
@@ -50,7 +50,7 @@ returns g c =
     let told : Ok (record { bases = x.bases; own = own }) ≡ loads_read t days e.day = whole t days e.day x own c.in_ok-original.ensures.answer here in
     record {
       answer = told;
-      measured = measured-told t days e (omega arith) (omega arith) _ told;
+      measured = measured_told t days e (omega arith) (omega arith) _ told;
       small = c.in_ok-original.ensures.bound;
       keeps = c.read_own.ensures.keeps ∙ kept;
     }

@@ -1,16 +1,16 @@
 use Rattle.std.proofs.Common.{◌≡◌, ℕ, length, rules}
 use Rattle.tariff.specs.Highest.{total_at}
-use Rattle.baseline.proofs.Threes.{first-of-three, second-of-three, third-of-three}
+use Rattle.baseline.proofs.Threes.{first_of_three, second_of_three, third_of_three}
 use Rattle.baseline.proofs.highest.among_two.Goals as goal
 
 pub returns-then-goes_before : goal.returns-then-goes_before
 returns-then-goes_before c =
-    first-of-three (total_at c.args.totals.now) c.args.place c.args.a c.args.b c.if-goes_before.ensures
+    first_of_three (total_at c.args.totals.now) c.args.place c.args.a c.args.b c.if-goes_before.ensures
 
 pub returns-then-goes_before-2 : goal.returns-then-goes_before-2
 returns-then-goes_before-2 c =
-    second-of-three (total_at c.args.totals.now) c.args.place c.args.a c.args.b c.if-goes_before.ensures c.if-goes_before-2.ensures
+    second_of_three (total_at c.args.totals.now) c.args.place c.args.a c.args.b c.if-goes_before.ensures c.if-goes_before-2.ensures
 
 pub returns-else-goes_before-2 : goal.returns-else-goes_before-2
 returns-else-goes_before-2 c =
-    third-of-three (total_at c.args.totals.now) c.args.place c.args.a c.args.b c.if-goes_before.ensures c.if-goes_before-2.ensures
+    third_of_three (total_at c.args.totals.now) c.args.place c.args.a c.args.b c.if-goes_before.ensures c.if-goes_before-2.ensures

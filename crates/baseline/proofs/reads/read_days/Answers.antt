@@ -2,7 +2,7 @@ use Rattle.std.proofs.Common.{◌≡◌, ℕ, ◌-◌, ◌<◌, length, get_or, 
 use Rattle.std.proofs.lemmas.Result.{err_from_is_err_and, IfOk-from_err}
 use Rattle.tariff.specs.declared.fault.Use.TheVariants.{Comparison}
 use Rattle.baseline.specs.Days.{day_read, days_read}
-use Rattle.baseline.proofs.Shown.{original-told}
+use Rattle.baseline.proofs.Shown.{original_told}
 use Rattle.baseline.proofs.TenDays.{read_of, got_more, days_whole, days_gap}
 use Rattle.baseline.proofs.reads.read_days.Goals as goal
 
@@ -19,7 +19,7 @@ returns-in_err-read g c =
     let told : c.from_residual.result ≡ days_read t days = p.1 ∙ ap Err p.2 ∙ days_gap t days c.loop-place.read i f c.told-days (omega arith) (λ k l. kept.2 k (omega arith)) here in
     record {
       answer = told;
-      original = original-told t days c.from_residual.result told;
+      original = original_told t days c.from_residual.result told;
       bound = IfOk-from_err c.from_residual.result _ c.from_residual.ensures.0;
       keeps = c.read_day.ensures.keeps ∙ kept.0;
     }
@@ -49,7 +49,7 @@ returns g c =
     let told : Ok read ≡ days_read t days = days_whole t days read c.told-days kept.1 (λ k. kept.2 k (omega arith)) in
     record {
       answer = told;
-      original = original-told t days (Ok read) told;
+      original = original_told t days (Ok read) told;
       bound = λ k l. (kept.2 k (omega arith) l).small;
       keeps = kept.0;
     }

@@ -1,5 +1,5 @@
 use Rattle.std.proofs.lemmas.Result.{err_from_is_err_and, IfOk-from_err}
-use Rattle.settlement.proofs.Tasks.{there-more, there-all, stopped-here, season-more, season-all, outcomes-more, outcomes-all, statements-more, statements-all}
+use Rattle.settlement.proofs.Tasks.{there_more, there_all, stopped_here, season_more, season_all, outcomes_more, outcomes_all, statements_more, statements_all}
 use Rattle.settlement.proofs.run.do_steps.Goals as goal
 
 pub returns-in-err-outcome : goal.returns-in-err-outcome
@@ -11,7 +11,7 @@ returns-in-err-outcome c =
       outcomes = IfOk-from_err _ _ err;
       after = IfOk-from_err _ _ err;
       written = IfOk-from_err _ _ err;
-      stopped = rw (p.1, p.2) (stopped-here _ _ _ _ _ _ c.loop-step-test.true c.in-err-outcome.ensures.stopped c.loop-step.invariant.0);
+      stopped = rw (p.1, p.2) (stopped_here _ _ _ _ _ _ c.loop-step-test.true c.in-err-outcome.ensures.stopped c.loop-step.invariant.0);
     }
 
 pub loop-step-preserved : goal.loop-step-preserved
@@ -19,10 +19,10 @@ loop-step-preserved c =
     let inv = c.loop-step.invariant in
     let told = c.in-ok-outcome.ensures in
     let more = c.loop-step-test.true in (
-      there-more _ _ _ _ _ more told.there inv.0,
-      season-more _ _ _ _ _ _ more told.after inv.1,
-      outcomes-more _ _ _ _ _ _ _ _ _ _ more told.after told.outcome c.in-ok-push.ensures.items inv.2,
-      statements-more _ _ _ _ _ _ _ _ _ more told.after told.written inv.3,
+      there_more _ _ _ _ _ more told.there inv.0,
+      season_more _ _ _ _ _ _ more told.after inv.1,
+      outcomes_more _ _ _ _ _ _ _ _ _ _ more told.after told.outcome c.in-ok-push.ensures.items inv.2,
+      statements_more _ _ _ _ _ _ _ _ _ more told.after told.written inv.3,
     )
 
 pub returns : goal.returns
@@ -30,9 +30,9 @@ returns c =
     let inv = c.loop-step.invariant in
     let past = c.loop-step-test.false in
     record {
-      there = there-all _ _ _ _ past inv.0;
-      outcomes = outcomes-all _ _ _ _ _ _ past inv.2;
-      after = season-all _ _ _ _ past inv.1;
-      written = statements-all _ _ _ _ _ _ past inv.3;
+      there = there_all _ _ _ _ past inv.0;
+      outcomes = outcomes_all _ _ _ _ _ _ past inv.2;
+      after = season_all _ _ _ _ past inv.1;
+      written = statements_all _ _ _ _ _ _ past inv.3;
       stopped = tt;
     }

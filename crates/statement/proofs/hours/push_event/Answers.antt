@@ -4,7 +4,7 @@ use Rattle.tariff.specs.Calendar.{week_of}
 use Rattle.baseline.specs.Measuring.{no_measured}
 use Rattle.pay.specs.Listed.{listed}
 use Rattle.statement.specs.Measured.{measured_of_list}
-use Rattle.statement.proofs.Pushed.{pushed-length, pushed-measured, pushed-weeks}
+use Rattle.statement.proofs.Pushed.{pushed_length, pushed_measured, pushed_weeks}
 use Rattle.statement.proofs.hours.push_event.Goals as goal
 
 pub loop-k-preserved : goal.loop-k-preserved
@@ -19,7 +19,7 @@ loop-k-preserved c =
     let fits : c.push.result ≡ _ = c.push.ensures.room ∙ lt-ltb (length list) 60 (omega (arith, inv.0, c.requires.room)) in
     let one : next ≡ list ++ hour ∷ [] = c.push.ensures.after ∙ cond-true c.push.result _ _ fits in
     let week = c.placed-hour.ensures.week ∙ ap (λ m. week_of c.args.year m.day) (sym c.placed-hour.ensures.is) in (
-      pushed-length list next hour one (length (listed c.args.list.now)) k inv.0,
-      pushed-measured list next hour one (measured_of_list c.args.list.now) hours k no_measured (omega (arith, c.requires.bounds.within)) inv.1 c.placed-hour.ensures.is,
-      pushed-weeks list next hour one c.args.year inv.2 week,
+      pushed_length list next hour one (length (listed c.args.list.now)) k inv.0,
+      pushed_measured list next hour one (measured_of_list c.args.list.now) hours k no_measured (omega (arith, c.requires.bounds.within)) inv.1 c.placed-hour.ensures.is,
+      pushed_weeks list next hour one c.args.year inv.2 week,
     )

@@ -7,7 +7,7 @@ use Rattle.tariff.specs.declared.season.Day.TheVariants.{NoEvent, Standing, Revo
 use Rattle.pay.specs.Listed.{listed}
 use Rattle.season.specs.View.{view}
 use Rattle.statement.specs.Measured.{InYear, DayMeasured, DayTold}
-use Rattle.statement.proofs.DayByDay.{quiet_day, count_of, days-within, standing-day, standing-fault}
+use Rattle.statement.proofs.DayByDay.{quiet_day, count_of, days_within, standing_day, standing_fault}
 use Rattle.statement.proofs.measure.measure_day.Goals as goal
 
 pub returns-in_err-measured-in-Standing : goal.returns-in_err-measured-in-Standing
@@ -20,7 +20,7 @@ returns-in_err-measured-in-Standing g c =
     let held : day_at s c.args.day ≡ Standing c.in-Standing.event = ap (day_at s) (sym c.from.ensures) ∙ sym c.day-held.ensures.is ∙ c.in-Standing.is in
     let p = err_from_is_err_and c.from_residual.result c.from_residual.ensures.1 in
     let is : c.from_residual.result ≡ Err f = p.1 ∙ ap Err p.2 in
-    let fault = standing-fault s x t c.args.day c.in-Standing.event c.args.number held c.requires.number f c.in_err-measured-in-Standing.ensures.answer in
+    let fault = standing_fault s x t c.args.day c.in-Standing.event c.args.number held c.requires.number f c.in_err-measured-in-Standing.ensures.answer in
     record {
       told = subst (DayTold s x t c.args.day list list) (sym is) fault;
       keeps = c.measure_standing.ensures.keeps;
@@ -38,7 +38,7 @@ push_event-requires g c =
     record {
       room = omega (arith, count, c.requires.room);
       bounds = c.in_ok-measured-in-Standing.ensures.bounds;
-      days = λ k h. days-within s x t c.args.day c.in-Standing.event c.args.number held c.requires.number m told c.requires.day k;
+      days = λ k h. days_within s x t c.args.day c.in-Standing.event c.args.number held c.requires.number m told c.requires.day k;
       weeks = subst (λ (y : ℕ). All (InYear y) (listed c.args.list.now)) (sym c.year.ensures) c.requires.weeks;
     }
 
@@ -53,7 +53,7 @@ returns-in_ok-measured-in-Standing g c =
     let weeks = subst (λ (y : ℕ). All (InYear y) (listed after)) c.year.ensures c.push_event.ensures.weeks in
     let more : c.next_number-next.result ≡ c.args.number + 1 = c.next_number-next.ensures ∙ ap (λ day. c.args.number + cond (stands day) 1 0) c.in-Standing.is in
     record {
-      told = subst (DayMeasured s x t c.args.day c.args.list.now after) (sym more) (standing-day s x t c.args.day c.in-Standing.event c.args.number held c.requires.number m c.args.list.now after c.in_ok-measured-in-Standing.ensures.answer c.requires.low c.push_event.ensures.counts c.push_event.ensures.hours weeks);
+      told = subst (DayMeasured s x t c.args.day c.args.list.now after) (sym more) (standing_day s x t c.args.day c.in-Standing.event c.args.number held c.requires.number m c.args.list.now after c.in_ok-measured-in-Standing.ensures.answer c.requires.low c.push_event.ensures.counts c.push_event.ensures.hours weeks);
       keeps = c.measure_standing.ensures.keeps;
     }
 

@@ -11,7 +11,7 @@ use Rattle.pay.specs.Listed.{listed}
 use Rattle.pay.specs.Paying.{measured_list}
 use Rattle.season.specs.View.{view}
 use Rattle.statement.specs.Measured.{InYear, measured_of_list, DayMeasured, SeasonTold}
-use Rattle.statement.proofs.SeasonHours.{room_for_day, counts-more, hours-again, no_fault, first_fault, hours_counted}
+use Rattle.statement.proofs.SeasonHours.{room_for_day, counts_more, hours_again, no_fault, first_fault, hours_counted}
 use Rattle.statement.proofs.measure.measure_season.Goals as goal
 
 pub loop-day-init : goal.loop-day-init
@@ -71,8 +71,8 @@ loop-day-preserved g c =
       c.measure_day.ensures.keeps ∙ inv.0,
       day.number,
       omega (arith, day.low),
-      counts-more s x t d n before after day inv.3,
-      hours-again s x t d n before after day inv.4,
+      counts_more s x t d n before after day inv.3,
+      hours_again s x t d n before after day inv.4,
       day.weeks,
       below_more _ _ inv.6 day.answered,
     )

@@ -1,7 +1,7 @@
 use Rattle.std.proofs.Common.{◌+◌, ◌++◌, drop, ap, ◌∙◌, arith}
 use Rattle.tariff.specs.Calls.{answers}
 use Rattle.season.specs.View.{view}
-use Rattle.season.proofs.Runs.{run_more, run-all, answers-more, answers-all}
+use Rattle.season.proofs.Runs.{run_more, run_all, answers_more, answers_all}
 use Rattle.season.proofs.season.Season.make_calls.Goals as goal
 
 pub loop-call-preserved : goal.loop-call-preserved
@@ -14,11 +14,11 @@ loop-call-preserved c =
       omega arith,
       run_more _ _ _ _ _ _ _ c.loop-call-test.true answered after inv.1,
       ap (λ xs. xs ++ answers (view c.call-answer.new.self) (drop (i + 1) cs)) c.push_reserved.ensures.items
-          ∙ answers-more _ _ _ _ _ _ _ _ c.loop-call-test.true answered after inv.2,
+          ∙ answers_more _ _ _ _ _ _ _ _ c.loop-call-test.true answered after inv.2,
     )
 
 pub returns : goal.returns
 returns c =
     let inv = c.loop-call.invariant in
     let past = c.loop-call-test.false in
-    record { after = run-all _ _ _ _ past inv.1; answered = answers-all _ _ _ _ _ past inv.2 }
+    record { after = run_all _ _ _ _ past inv.1; answered = answers_all _ _ _ _ _ past inv.2 }

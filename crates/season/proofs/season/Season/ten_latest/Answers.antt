@@ -1,7 +1,7 @@
 use Rattle.std.proofs.Common.{◌≡◌, ◌-◌, sym, refl, ap, ◌∙◌, inl, inr, arith, length-set}
 use Rattle.tariff.specs.Comparison.{comparable, comparison_days}
 use Rattle.season.specs.View.{view}
-use Rattle.season.proofs.LatestDays.{one_more, none_more, ten-found, all-before}
+use Rattle.season.proofs.LatestDays.{one_more, none_more, ten_found, all_before}
 use Rattle.season.proofs.Sounds.{sound_of}
 use Rattle.season.proofs.season.Season.ten_latest.Goals as goal
 use Rattle.season.proofs.season.Season.ten_latest.Goals.{else-count-lt10-via-then-count-lt10+else-comparable, else-count-lt10-via-else-count-lt10}
@@ -41,5 +41,5 @@ loop-k-preserved c =
 pub returns : goal.returns
 returns c =
     let s = view c.args.self.now in
-    let same = ten-found s c.args.day c.loop-k.days c.loop-k.count c.loop-k.k (sound_of c.args.self.now) c.requires.stands c.loop-k.invariant.0 (omega arith) c.loop-k.invariant.2 in
-    record { is = same; before = rw same (all-before s c.args.day) }
+    let same = ten_found s c.args.day c.loop-k.days c.loop-k.count c.loop-k.k (sound_of c.args.self.now) c.requires.stands c.loop-k.invariant.0 (omega arith) c.loop-k.invariant.2 in
+    record { is = same; before = rw same (all_before s c.args.day) }
