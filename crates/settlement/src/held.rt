@@ -6,9 +6,9 @@ use meter::meter::Meter;
 
 // 1 for an hour that holds a load, and 0 for one that holds none.
 fn held_in_hour<M: Meter>(meter: &mut M, at: SummerHour) -> u32
-    ensures is { result ≡ (if holds_load (table meter.old at.day at.hour) then 1 else 0) }
+    ensures is { result ≡ (if holds_load (M.table meter.old at.day at.hour) then 1 else 0) }
     ensures within { result ≤ 1 }
-    ensures keeps { table meter.new ≡ table meter.old }
+    ensures keeps { M.table meter.new ≡ M.table meter.old }
 {
     match meter.load(at) {
         Ok(_) => 1,
@@ -19,9 +19,9 @@ fn held_in_hour<M: Meter>(meter: &mut M, at: SummerHour) -> u32
 // How many hours of a day of the summer hold a load.
 fn held_on_day<M: Meter>(meter: &mut M, day: u8) -> u32
     requires { day ≤ 75 }
-    ensures is { result ≡ held_on_day (table meter.old) day 24 }
+    ensures is { result ≡ held_on_day (M.table meter.old) day 24 }
     ensures within { result ≤ 24 }
-    ensures keeps { table meter.new ≡ table meter.old }
+    ensures keeps { M.table meter.new ≡ M.table meter.old }
 {
     let mut found = 0;
     for hour in 0..24u8 {
@@ -32,9 +32,9 @@ fn held_on_day<M: Meter>(meter: &mut M, day: u8) -> u32
 
 // How many of the 1,824 hours of the summer hold a load.
 pub fn hours_held<M: Meter>(meter: &mut M) -> u32
-    ensures is { result ≡ hours_held (table meter.old) }
+    ensures is { result ≡ hours_held (M.table meter.old) }
     ensures within { result ≤ 1824 }
-    ensures keeps { table meter.new ≡ table meter.old }
+    ensures keeps { M.table meter.new ≡ M.table meter.old }
 {
     let mut found = 0;
     for day in 0..76u8 {

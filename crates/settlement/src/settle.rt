@@ -23,9 +23,9 @@ fn settle_one<M: Meter>(
     meter: &mut M,
     statements: &mut Vec<Statement>,
 ) -> Result<Result<u32, StatementRefusal>, AllocError>
-    ensures answer { IfOk result (λ a. a ≡ hours_answered (outcome (view season.now) site (table meter.old))) }
-    ensures written { OnOk result (statements.new.items ≡ statements.old.items ++ written (outcome (view season.now) site (table meter.old))) }
-    ensures keeps { table meter.new ≡ table meter.old }
+    ensures answer { IfOk result (λ a. a ≡ hours_answered (outcome (view season.now) site (M.table meter.old))) }
+    ensures written { OnOk result (statements.new.items ≡ statements.old.items ++ written (outcome (view season.now) site (M.table meter.old))) }
+    ensures keeps { M.table meter.new ≡ M.table meter.old }
 {
     let mut filled = blank_statement();
     let answer = statement(season, site, meter, &mut filled);

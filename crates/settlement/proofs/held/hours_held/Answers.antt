@@ -9,7 +9,7 @@ loop-day-init g c = search (rules, total_zero)
 pub loop-day-preserved : goal.loop-day-preserved
 loop-day-preserved g c =
     let inv = c.loop-day.invariant in
-    let found = c.held-on-day-found.ensures in (
+    let found = c.held_on_day-found.ensures in (
       found.keeps ∙ inv.0,
       day_more _ _ _ _ _ inv.0 inv.1 found.is,
       omega (arith, found.within, inv.2),

@@ -2,26 +2,26 @@ use Rattle.std.proofs.lemmas.Result.{err_from_is_err_and, IfOk-from_err}
 use Rattle.settlement.proofs.Tasks.{there_more, there_all, stopped_here, season_more, season_all, outcomes_more, outcomes_all, statements_more, statements_all}
 use Rattle.settlement.proofs.run.do_steps.Goals as goal
 
-pub returns-in-err-outcome : goal.returns-in-err-outcome
-returns-in-err-outcome c =
-    let err = c.from-residual.ensures.0 in
-    let p = err_from_is_err_and c.from-residual.result c.from-residual.ensures.1 in
+pub returns-in_err-outcome : goal.returns-in_err-outcome
+returns-in_err-outcome c =
+    let err = c.from_residual.ensures.0 in
+    let p = err_from_is_err_and c.from_residual.result c.from_residual.ensures.1 in
     record {
       there = IfOk-from_err _ _ err;
       outcomes = IfOk-from_err _ _ err;
       after = IfOk-from_err _ _ err;
       written = IfOk-from_err _ _ err;
-      stopped = rw (p.1, p.2) (stopped_here _ _ _ _ _ _ c.loop-step-test.true c.in-err-outcome.ensures.stopped c.loop-step.invariant.0);
+      stopped = rw (p.1, p.2) (stopped_here _ _ _ _ _ _ c.loop-step-test.true c.in_err-outcome.ensures.stopped c.loop-step.invariant.0);
     }
 
 pub loop-step-preserved : goal.loop-step-preserved
 loop-step-preserved c =
     let inv = c.loop-step.invariant in
-    let told = c.in-ok-outcome.ensures in
+    let told = c.in_ok-outcome.ensures in
     let more = c.loop-step-test.true in (
       there_more _ _ _ _ _ more told.there inv.0,
       season_more _ _ _ _ _ _ more told.after inv.1,
-      outcomes_more _ _ _ _ _ _ _ _ _ _ more told.after told.outcome c.in-ok-push.ensures.items inv.2,
+      outcomes_more _ _ _ _ _ _ _ _ _ _ more told.after told.outcome c.in_ok-push.ensures.items inv.2,
       statements_more _ _ _ _ _ _ _ _ _ more told.after told.written inv.3,
     )
 
