@@ -5,37 +5,26 @@ use desk::program::text_for;
 use desk::settle::settle_text;
 use std::test::*;
 
-// What a command is told that asks for nothing: its first line.
-fn says(rt: &HostRuntime, words: &[&str], message: &str) -> Result<(), Fail> {
+// Whether a command that asks for nothing is told this, in its first line.
+fn says(rt: &HostRuntime, words: &[&str], message: &str) -> bool {
     match text_for(rt, words) {
         Err(Failure::Said(said)) => match said.as_str().split_once('\n') {
-            Some((first, _)) => {
-                assert_eq!(first, message);
-                Ok(())
-            },
-            None => {
-                assert_eq!(said.as_str(), message);
-                Ok(())
-            },
+            Some((first, _)) => first == message,
+            None => said.as_str() == message,
         },
-        _ => {
-            assert!(false);
-            Ok(())
-        },
+        _ => false,
     }
 }
 
 #[test]
 fn options_come_before_or_after(rt: HostRuntime) -> Result<(), Fail> {
     let missing = "none.batch: No such file or directory (os error 2)";
-    says(&rt, &["--csv", "none.batch"], missing)?;
-    says(&rt, &["none.batch", "--csv"], missing)?;
-    says(&rt, &["--cvs", "none.batch"], "there is no option --cvs")?;
-    says(
-        &rt,
-        &["none.batch", "more.batch"],
-        "one batch is settled, and more.batch is a second",
-    )
+    assert!(rt; says(&rt, &["--csv", "none.batch"], missing));
+    assert!(rt; says(&rt, &["none.batch", "--csv"], missing));
+    assert!(rt; says(&rt, &["--cvs", "none.batch"], "there is no option --cvs"));
+    let second = "one batch is settled, and more.batch is a second";
+    assert!(rt; says(&rt, &["none.batch", "more.batch"], second));
+    Ok(())
 }
 
 #[test]

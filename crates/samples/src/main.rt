@@ -3,6 +3,7 @@
 
 use desk::failure::{Failure, Stopped};
 use desk::program::{obey, text_for};
+use std::process::ExitCode;
 
 const BATCHES: [&str; 3] = ["summer-2015.batch", "refusals.batch", "gaps.batch"];
 
@@ -25,13 +26,20 @@ fn show_fault(rt: &HostRuntime, batch: &'static str) -> Result<(), Stopped> {
     }
 }
 
-fn main(rt: HostRuntime) -> Result<(), Stopped> {
+fn show_all(rt: &HostRuntime) -> Result<(), Stopped> {
     for batch in BATCHES {
-        obey(&rt, &[batch])?;
-        obey(&rt, &["--csv", batch])?;
+        obey(rt, &[batch])?;
+        obey(rt, &["--csv", batch])?;
     }
     for batch in UNREADABLE {
-        show_fault(&rt, batch)?;
+        show_fault(rt, batch)?;
     }
     Ok(())
+}
+
+fn main(rt: HostRuntime) -> ExitCode {
+    match show_all(&rt) {
+        Ok(()) => ExitCode::SUCCESS,
+        Err(Stopped) => ExitCode::FAILURE,
+    }
 }

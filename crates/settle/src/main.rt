@@ -3,7 +3,11 @@
 
 use desk::failure::Stopped;
 use desk::program::run_settle;
+use std::process::ExitCode;
 
-fn main(rt: HostRuntime) -> Result<(), Stopped> {
-    run_settle(&rt)
+fn main(rt: HostRuntime) -> ExitCode {
+    match run_settle(&rt) {
+        Ok(()) => ExitCode::SUCCESS,
+        Err(Stopped) => ExitCode::FAILURE,
+    }
 }
