@@ -1,6 +1,5 @@
 -- Events measured from the loads that were read are measured as the tariff says.
-use Rattle.std.proofs.Common.{◌≡◌, ℕ, suc, ◌+◌, ◌-◌, ◌<◌, ◌≤◌, List, [], ◌∷◌, ◌++◌, map, length, get_or, take, set, replicate, Some, None, Ok, Err, Result, sym, refl, ap, ◌∙◌, ap₂, arith}
-use lib.ListN.{length-map}
+use Rattle.std.proofs.Common.{◌≡◌, ℕ, ◌+◌, ◌-◌, ◌<◌, ◌≤◌, List, [], ◌∷◌, ◌++◌, map, length, get_or, take, set, replicate, Some, None, Ok, Err, Result, sym, refl, ap, ◌∙◌, ap₂, arith}
 use Rattle.std.specs.List.{range_with_len, AllByRecursion as All}
 use Rattle.std.proofs.lemmas.List.FromFn.{length-range_with_len, get_or-range_with_len, length-map-range_with_len, map-range_with_len_more}
 use Rattle.std.proofs.ByRecursion.{All-get_or}
@@ -12,12 +11,10 @@ use Rattle.tariff.specs.Pay.{filled}
 use Rattle.tariff.specs.Tables.{Table}
 use Rattle.tariff.specs.declared.fault.BaselineFault.{BaselineFault}
 use Rattle.tariff.specs.declared.fault.Use.TheVariants.{EventDay}
-use Rattle.tariff.specs.declared.season.EventHour.{EventHour}
 use Rattle.tariff.specs.declared.statement.MeasuredHour.{MeasuredHour}
 use Rattle.tariff.proofs.Pointwise.{filled_more}
 use Rattle.tariff.proofs.Ranking.{all_counting}
 use Rattle.baseline.specs.declared.loads.EventLoads.{EventLoads}
-use Rattle.baseline.specs.declared.measured.MeasuredEvent.{MeasuredEvent}
 use Rattle.baseline.specs.declared.original.OriginalBaseline.{OriginalBaseline}
 use Rattle.baseline.specs.declared.span.EventSpan.{EventSpan}
 use Rattle.baseline.specs.Days.{day_read, day_loads, fault_or}

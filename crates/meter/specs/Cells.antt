@@ -3,7 +3,6 @@ use Rattle.std.specs.Prelude.{ℕ, ◌+◌, ◌*◌, cond, ◌&&◌, List, lengt
 use Rattle.tariff.specs.Tables.{Table}
 use Rattle.tariff.specs.declared.reading.Reading.{Reading}
 use Rattle.tariff.specs.declared.reading.Reading.TheVariants.{Load, NoLoad}
-use Rattle.tariff.specs.declared.reading.Gap.{Gap}
 use Rattle.tariff.specs.declared.reading.Gap.TheVariants.{Missing, Over}
 
 -- what a cell holds: a cell past the end, or above the limit, holds no load

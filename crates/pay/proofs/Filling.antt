@@ -1,5 +1,5 @@
 -- Lines that are filled in one by one.
-use Rattle.std.proofs.Common.{◌≡◌, ℕ, ◌+◌, ◌-◌, ◌<◌, ◌≤◌, List, [], ◌∷◌, ◌++◌, map, length, get_or, take, set, replicate, sym, refl, ap, ◌∙◌, arith}
+use Rattle.std.proofs.Common.{◌≡◌, ℕ, ◌+◌, ◌<◌, ◌≤◌, List, [], ◌∷◌, ◌++◌, map, length, get_or, take, set, replicate, sym, refl, ap, ◌∙◌, arith}
 use lib.ListN.{length-map}
 use Rattle.std.specs.List.{range_with_len}
 use Rattle.std.proofs.lemmas.List.FromFn.{length-map-range_with_len, map-range_with_len_more}
@@ -9,7 +9,7 @@ use Rattle.tariff.proofs.Pointwise.{filled_more}
 use Rattle.tariff.specs.declared.statement.HourLine.{HourLine}
 use Rattle.tariff.specs.declared.statement.WeekLine.{WeekLine}
 use Rattle.pay.specs.declared.placed.PlacedHour.{PlacedHour}
-use Rattle.pay.specs.Paying.{measured_list, hour_lines_of, week_line_in, week_lines_of}
+use Rattle.pay.specs.Paying.{hour_lines_of, week_line_in, week_lines_of}
 
 -- ---- hour lines
 

@@ -1,5 +1,5 @@
 -- Sums over measured hours and weeks, as loops come to them and as the tariff has them.
-use Rattle.std.proofs.Common.{◌≡◌, ℕ, zero, suc, ◌+◌, ◌-◌, ◌<◌, Bool, true, false, cond, eqb, List, [], ◌∷◌, ◌++◌, map, length, get_or, take, replicate, sum_by, filter, sym, refl, ap, ◌∙◌, ap₂, zero-add, arith}
+use Rattle.std.proofs.Common.{◌≡◌, ℕ, zero, suc, ◌+◌, ◌-◌, ◌<◌, Bool, true, false, cond, eqb, List, [], ◌∷◌, map, length, get_or, take, replicate, sum_by, filter, sym, refl, ap, ◌∙◌, ap₂, zero-add, arith}
 use lib.ListN.{length-map}
 use Rattle.std.proofs.lemmas.List.Sums.{sum_by-cons, sum_by-append, sum_by_more, length-filter}
 use Rattle.tariff.specs.Pay.{energy_for, adjustment_for, counted_reduction, counted_sum, charged_of, incentive_of, priced, filled, no_hour, no_week}

@@ -1,16 +1,15 @@
 -- At a year's own weeks and programme days, and a site's nominations, a statement is the tariff's.
-use Rattle.std.proofs.Common.{◌≡◌, ℕ, ◌+◌, ◌-◌, ◌<◌, ◌≤◌, Bool, true, false, cond, eqb, List, [], ◌∷◌, map, get_or, filter, sym, refl, ap, ◌∙◌, subst, ap₂, arith}
+use Rattle.std.proofs.Common.{◌≡◌, ℕ, ◌-◌, ◌≤◌, Bool, true, false, cond, eqb, List, [], ◌∷◌, map, get_or, filter, refl, ap, ◌∙◌, arith}
 use Rattle.std.specs.List.{range_with_len, AllByRecursion as All}
-use Rattle.tariff.specs.Calendar.{week_of, in_week, last_week, programme_days}
+use Rattle.tariff.specs.Calendar.{week_of, in_week}
 use Rattle.tariff.specs.Pay.{priced, week_line_of, week_line, week_lines, hours_in_week, incentive_of, charged_of, written, paid_for}
 use Rattle.tariff.specs.Season.{nomination_for}
 use Rattle.tariff.specs.declared.season.Site.{Site}
 use Rattle.tariff.specs.declared.statement.MeasuredHour.{MeasuredHour}
-use Rattle.tariff.specs.declared.statement.WeekLine.{WeekLine}
 use Rattle.tariff.proofs.Pointwise.{map_same}
 use Rattle.tariff.proofs.Ranking.{all_counting}
 use Rattle.pay.specs.declared.placed.PlacedHour.{PlacedHour}
-use Rattle.pay.specs.Paying.{measured_list, measured_in_week, hour_lines_of, week_line_in, week_lines_of, statement_from, OfYear, PaidAsTheTariffSays}
+use Rattle.pay.specs.Paying.{measured_list, measured_in_week, hour_lines_of, week_line_in, week_lines_of, statement_from, OfYear}
 
 kept_one : (p : PlacedHour) (ks : List PlacedHour) (ms : List MeasuredHour) → measured_list ks ≡ ms → (b : Bool) → measured_list (cond b (p ∷ ks) ks) ≡ cond b (p.measured ∷ ms) ms
 kept_one p ks ms e true = ap (λ ns. p.measured ∷ ns) e

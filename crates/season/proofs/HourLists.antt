@@ -4,7 +4,7 @@ use Rattle.std.specs.List.{AllByRecursion as All, range_with_len}
 use Rattle.std.proofs.lemmas.List.FromFn.{map-range_with_len_more}
 use Rattle.std.proofs.lemmas.List.{append_assoc, append-nil, drop-drop, drop-set-lt, drop-replicate}
 use Rattle.std.proofs.lemmas.Bool.{cases_eq}
-use Rattle.tariff.specs.Events.{stands, announced, event_of, day_hours, day_in, event_hours_before, hours_before, hours_on, standing_before}
+use Rattle.tariff.specs.Events.{stands, announced, day_hours, day_in, event_hours_before, hours_before, hours_on, standing_before}
 use Rattle.tariff.specs.Season as model
 use Rattle.tariff.specs.Sound.{Sound}
 use Rattle.tariff.specs.declared.season.Day.{Day}

@@ -1,5 +1,5 @@
 -- The statements and the hour lines that tasks write are those that their outcomes count.
-use Rattle.std.proofs.Common.{◌≡◌, ℕ, ◌+◌, ◌*◌, Bool, true, false, cond, not, List, [], ◌∷◌, ◌++◌, length, Some, None, Ok, Err, Option, sym, refl, ap, ◌∙◌, ap₂, arith}
+use Rattle.std.proofs.Common.{◌≡◌, ℕ, ◌+◌, ◌*◌, Bool, true, false, cond, not, [], ◌∷◌, length, Some, None, Ok, Err, Option, sym, refl, ◌∙◌, ap₂, arith}
 use Rattle.std.proofs.lemmas.List.{length-append}
 use Rattle.std.proofs.lemmas.List.Sums.{sum_by-cons}
 use Rattle.tariff.specs.Season.{Season, season_event_hours, has_site, site_at}
@@ -9,7 +9,6 @@ use Rattle.tariff.specs.declared.statement.Statement.{Statement}
 use Rattle.tariff.specs.declared.statement.StatementRefusal.{StatementRefusal}
 use Rattle.tariff.specs.declared.statement.StatementRefusal.TheVariants.{SeasonNotClosed, NoSuchSite}
 use Rattle.statement.specs.Compared.{Outcomes, both_of, hours_of_both}
-use Rattle.batch.specs.declared.plan.Step.{Step}
 use Rattle.batch.specs.declared.plan.Task.{Task}
 use Rattle.batch.specs.declared.plan.Task.TheVariants.{Open, Call, Meter, Statement as StatementOf, Compare}
 use Rattle.settlement.specs.Counted.{EventHoursOutAreLinesWritten, StatementsOutAreThoseWritten, hours_out, lines_written, written_by}

@@ -1,5 +1,5 @@
 -- What comes of the tasks of a batch, one after another.
-use Rattle.std.specs.Prelude.{◌≡◌, ℕ, Bool, true, false, ◌&&◌, List, [], ◌∷◌, ◌++◌, replicate, is_some, Ok, Err, Option, Result}
+use Rattle.std.specs.Prelude.{◌≡◌, ℕ, Bool, true, false, ◌&&◌, List, [], ◌∷◌, ◌++◌, replicate, is_some, Ok, Err}
 use Rattle.std.specs.Option.{unwrap_or}
 use Rattle.tariff.specs.Calls.{open_answer, after_open, answer, next}
 use Rattle.tariff.specs.Pay.{no_hour, no_week}

@@ -1,5 +1,5 @@
 -- Two outcomes that compare so leave two statements that do.
-use Rattle.std.proofs.Common.{◌≡◌, ℕ, Ok, Err}
+use Rattle.std.proofs.Common.{Ok, Err}
 use Rattle.tariff.specs.Lines.{Both}
 use Rattle.tariff.specs.Statement.{Outcome}
 use Rattle.tariff.specs.declared.statement.Statement.{Statement}

@@ -1,5 +1,5 @@
 -- What one day leaves: nothing where no event stands, and else its hours or its fault.
-use Rattle.std.proofs.Common.{◌≡◌, ℕ, zero, suc, ◌+◌, ◌-◌, ◌<◌, ◌≤◌, true, false, cond, List, [], ◌∷◌, ◌++◌, map, length, get_or, take, replicate, Some, None, Ok, Err, Option, sym, refl, ap, ◌∙◌, subst, ap₂, append-nil, arith}
+use Rattle.std.proofs.Common.{◌≡◌, ℕ, zero, suc, ◌+◌, ◌-◌, ◌≤◌, false, cond, List, [], ◌∷◌, ◌++◌, map, length, get_or, take, replicate, Some, None, Ok, Err, Option, sym, refl, ap, ◌∙◌, subst, ap₂, append-nil, arith}
 use lib.ListN.{length-map}
 use Rattle.std.specs.List.{range_with_len, AllByRecursion as All}
 use Rattle.std.proofs.lemmas.List.FromFn.{length-range_with_len}
@@ -19,7 +19,6 @@ use Rattle.tariff.specs.declared.season.Event.{Event}
 use Rattle.tariff.specs.declared.season.Site.{Site}
 use Rattle.tariff.specs.declared.statement.EventFault.{EventFault}
 use Rattle.tariff.specs.declared.statement.MeasuredHour.{MeasuredHour}
-use Rattle.tariff.specs.declared.statement.StatementRefusal.{StatementRefusal}
 use Rattle.tariff.specs.declared.statement.StatementRefusal.TheVariants.{EventWithoutBaseline}
 use Rattle.baseline.proofs.Measures.{hours_back}
 use Rattle.baseline.specs.Days.{fault_or}

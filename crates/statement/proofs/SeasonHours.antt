@@ -1,8 +1,8 @@
 -- The hours of a season's days, one after another.
-use Rattle.std.proofs.Common.{◌≡◌, ℕ, zero, suc, ◌+◌, ◌-◌, ◌<◌, ◌≤◌, List, ◌++◌, map, length, Some, None, sym, refl, ap, ◌∙◌, subst, arith}
+use Rattle.std.proofs.Common.{◌≡◌, ℕ, zero, suc, ◌+◌, ◌-◌, ◌<◌, ◌≤◌, List, ◌++◌, map, length, Some, None, sym, ap, ◌∙◌, arith}
 use mathlib.Core.List.{map-append}
 use Rattle.tariff.specs.Events.{day_hours, event_number, event_hours_before, hours_before, hours_on}
-use Rattle.tariff.specs.Measure.{measured, measured_hours}
+use Rattle.tariff.specs.Measure.{measured}
 use Rattle.tariff.specs.Season.{Season, day_at, season_event_hours}
 use Rattle.tariff.specs.Statement.{day_refusal, season_fault}
 use Rattle.tariff.specs.Tables.{Table}

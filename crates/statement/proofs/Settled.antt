@@ -1,5 +1,5 @@
 -- A season whose hours are measured and paid for is settled as the tariff says.
-use Rattle.std.proofs.Common.{◌≡◌, ℕ, ◌-◌, ◌≤◌, List, length, get_or, None, Ok, sym, refl, ap, ◌∙◌, arith}
+use Rattle.std.proofs.Common.{◌≡◌, ℕ, ◌-◌, ◌≤◌, length, get_or, None, Ok, refl, ap, ◌∙◌, arith}
 use Rattle.tariff.specs.Calendar.{last_week, programme_days}
 use Rattle.tariff.specs.Measure.{measured_hours}
 use Rattle.tariff.specs.Pay.{paid_for}

@@ -1,5 +1,5 @@
 -- An event that is measured by its span, over its days, is measured as the tariff says.
-use Rattle.std.proofs.Common.{◌≡◌, ℕ, ◌/◌, List, [], ◌∷◌, map, Result, sym, refl, ap, ◌∙◌}
+use Rattle.std.proofs.Common.{◌≡◌, ℕ, ◌/◌, List, [], ◌∷◌, map, Result, refl, ap, ◌∙◌}
 use Rattle.std.specs.List.{range_with_len}
 use Rattle.tariff.specs.Calendar.{minute_of, week_of}
 use Rattle.tariff.specs.Comparison.{comparison_days}

@@ -1,6 +1,5 @@
 -- What comes of settling one site on two meters.
 use Rattle.std.specs.Prelude.{ℕ, IfOk, Ok, Err, Result}
-use Rattle.tariff.specs.Lines.{Both}
 use Rattle.tariff.specs.Statement.{Outcome}
 use Rattle.tariff.specs.declared.statement.Statement.{Statement}
 use Rattle.tariff.specs.declared.statement.StatementRefusal.{StatementRefusal}

@@ -1,5 +1,5 @@
 -- Paying: reductions no lower, with shortfalls no higher and all else equal, raise no adjustment charged and lower no net.
-use Rattle.std.proofs.Common.{◌≡◌, ℕ, zero, suc, ◌-◌, ◌/◌, ◌≤◌, Bool, true, false, cond, eqb, List, map, length, sym, refl, ap, le_refl, mul-le-mul_right, mul-le-mul_left, div-mul-le_self, arith}
+use Rattle.std.proofs.Common.{◌≡◌, ℕ, zero, suc, ◌/◌, ◌≤◌, Bool, true, false, cond, eqb, List, map, length, sym, refl, ap, le_refl, mul-le-mul_right, mul-le-mul_left, div-mul-le_self, arith}
 use native.Mathlib.Nat.{div-zero}
 use Rattle.std.specs.List.{range_with_len, AllZip}
 use Rattle.std.proofs.lemmas.Nat.{le-div}

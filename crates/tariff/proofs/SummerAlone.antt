@@ -1,5 +1,5 @@
 -- Tables that agree on the hours of the summer settle alike.
-use Rattle.std.proofs.Common.{◌≡◌, ◌-◌, refl, ap, subst}
+use Rattle.std.proofs.Common.{◌≡◌, refl, ap, subst}
 use Rattle.tariff.specs.Calls.{run}
 use Rattle.tariff.specs.Events.{event_number}
 use Rattle.tariff.specs.Laws.{OnlyTheSummerCounts}

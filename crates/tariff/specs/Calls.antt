@@ -1,5 +1,5 @@
 -- The calls of a season: what each answers, and which season it leaves. A refused call leaves the season as it was.
-use Rattle.std.specs.Prelude.{ℕ, ◌+◌, ◌-◌, ◌*◌, Bool, true, cond, not, ◌&&◌, ◌||◌, List, [], ◌∷◌, ◌++◌, length, set, Ok, Err, Result, ◌==◌, nat_le, nat_lt, slice_set}
+use Rattle.std.specs.Prelude.{ℕ, ◌+◌, ◌-◌, ◌*◌, Bool, true, cond, not, ◌&&◌, ◌||◌, List, [], ◌∷◌, ◌++◌, length, Ok, Err, Result, ◌==◌, nat_le, nat_lt, slice_set}
 use Rattle.tariff.specs.Calendar.{business, in_season, last_week, week_of, deadline, day_of, minute_of}
 use Rattle.tariff.specs.Kinds.{kind_of, least_kw}
 use Rattle.tariff.specs.Events.{announced, event_of}

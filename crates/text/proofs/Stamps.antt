@@ -1,11 +1,10 @@
 -- Reading and writing stamps. Assumes nothing.
-use Rattle.std.proofs.Common.{◌≡◌, ℕ, ◌+◌, ◌-◌, ◌*◌, ◌/◌, ◌%◌, ◌<◌, ◌≤◌, Bool, true, false, cond, ◌&&◌, eqb, ltb, leb, List, [], ◌∷◌, length, get_or, IfSome, Some, None, Option, sym, refl, ap, ◌∙◌, ⊎_elim, arith}
-use Rattle.std.specs.Char.{is_ascii_digit}
+use Rattle.std.proofs.Common.{◌≡◌, ℕ, ◌+◌, ◌-◌, ◌*◌, ◌/◌, ◌%◌, ◌<◌, ◌≤◌, true, false, cond, ◌&&◌, eqb, ltb, leb, List, length, get_or, IfSome, Some, None, Option, sym, refl, ap, ◌∙◌, ⊎_elim, arith}
 use Rattle.std.proofs.lemmas.Slice.Eq.{text_from_reads}
-use Rattle.std.proofs.lemmas.Bool.{cases_Bool, cond-true, cond-false, cond_both, and_parts, leb-true, eqb-true, ltb-true, ltb-false}
+use Rattle.std.proofs.lemmas.Bool.{cases_Bool, cond-true, cond-false, cond_both, and_parts, leb-true, eqb-true, ltb-true}
 use Rattle.std.proofs.lemmas.Option.{MatchOption-at_some}
 use Rattle.std.proofs.lemmas.Bool.Decides.{nat_tests}
-use Rattle.text.specs.Stamps.{and_then, two_digits, day_to, day_of_summer, minute_of_day, moment_of, shaped, field, stamp_of, two_of, month_of, day_in_month, stamp_text}
+use Rattle.text.specs.Stamps.{and_then, two_digits, day_to, day_of_summer, minute_of_day, moment_of, shaped, field, stamp_of, month_of, day_in_month, stamp_text}
 use Rattle.text.specs.Stamps.{StampsLieInTheSummer, WrittenStampsReadBack, AMomentHasOneStamp, StampsWorkedOut}
 
 -- ---- going on with what was read

@@ -1,4 +1,4 @@
-use Rattle.std.proofs.Common.{◌≡◌, ◌<◌, ◌≤◌, length, get_or, sym, ◌∙◌, arith, below_more}
+use Rattle.std.proofs.Common.{sym, ◌∙◌, arith, below_more}
 use Rattle.baseline.proofs.Within.{within_more, within_stops, within_ends}
 use Rattle.baseline.proofs.days.all_within.Goals as goal
 

@@ -1,4 +1,3 @@
-use Rattle.std.proofs.Common.{◌≡◌, ℕ, length, rules}
 use Rattle.tariff.specs.Highest.{total_at}
 use Rattle.baseline.proofs.Threes.{first_of_three, second_of_three, third_of_three}
 use Rattle.baseline.proofs.highest.among_two.Goals as goal

@@ -1,4 +1,4 @@
-use Rattle.std.proofs.Common.{◌≡◌, ℕ, length, rules}
+use Rattle.std.proofs.Common.{◌≡◌, length, rules}
 use Rattle.tariff.specs.Highest.{total_at}
 use Rattle.baseline.proofs.Threes.{as_first, as_second, as_third, as_none}
 use Rattle.baseline.proofs.highest.with_place.Goals as goal

@@ -1,4 +1,4 @@
-use Rattle.std.proofs.Common.{ℕ, ◌*◌, ◌≤◌, refl, mul-le-mul_right, mul-le-mul_left, arith, rules}
+use Rattle.std.proofs.Common.{ℕ, ◌*◌, ◌≤◌, refl, mul-le-mul_right, arith, rules}
 use Rattle.pay.proofs.capacity.for_days.Goals as goal
 
 pub returns : goal.returns

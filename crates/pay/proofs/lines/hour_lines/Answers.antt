@@ -1,7 +1,7 @@
 use Rattle.std.proofs.Common.{◌≡◌, ℕ, get_or, set, refl, ap, ◌∙◌, arith, length-set}
 use Rattle.tariff.specs.Pay.{priced}
 use Rattle.pay.specs.declared.placed.PlacedHour.{PlacedHour}
-use Rattle.pay.proofs.Filling.{lines_to, lines_to_none, lines_to_more, lines_to_all}
+use Rattle.pay.proofs.Filling.{lines_to_none, lines_to_more, lines_to_all}
 use Rattle.pay.proofs.lines.hour_lines.Goals as goal
 
 pub loop-k-init : goal.loop-k-init

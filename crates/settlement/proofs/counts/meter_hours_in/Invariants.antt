@@ -1,4 +1,4 @@
-use Rattle.std.proofs.Common.{◌≡◌, ◌*◌, ◌^◌, ◌≤◌, take, sum_by}
+use Rattle.std.proofs.Common.{◌≡◌, ◌*◌, ◌≤◌, take, sum_by}
 use Rattle.settlement.specs.Counted.{hours_of_meters}
 use Rattle.settlement.proofs.counts.meter_hours_in.Given as goal
 

@@ -1,4 +1,4 @@
-use Rattle.std.proofs.Common.{◌≡◌, ap, ◌∙◌}
+use Rattle.std.proofs.Common.{ap, ◌∙◌}
 use Rattle.tariff.specs.Calendar.{week_of}
 use Rattle.tariff.specs.Season.{nomination_for}
 use Rattle.baseline.specs.declared.measured.MeasuredEvent.{MeasuredEvent}

@@ -1,7 +1,7 @@
-use Rattle.std.proofs.Common.{◌≡◌, ℕ, ◌+◌, ◌<◌, [], map, length, Some, None, Ok, Err, sym, refl, ap, ◌∙◌, subst, arith, below_more}
+use Rattle.std.proofs.Common.{◌≡◌, map, length, Some, Err, sym, refl, ap, ◌∙◌, subst, arith, below_more}
 use Rattle.std.specs.List.{AllByRecursion as All}
 use Rattle.std.proofs.lemmas.Result.{err_from_is_err_and}
-use Rattle.tariff.specs.Events.{event_number, event_hours_before, hours_before}
+use Rattle.tariff.specs.Events.{event_hours_before, hours_before}
 use Rattle.tariff.specs.Measure.{measured}
 use Rattle.tariff.specs.Statement.{day_refusal}
 use Rattle.tariff.specs.Tables.{Table}
@@ -10,7 +10,7 @@ use Rattle.tariff.specs.declared.statement.StatementRefusal.TheVariants.{EventWi
 use Rattle.pay.specs.Listed.{listed}
 use Rattle.pay.specs.Paying.{measured_list}
 use Rattle.season.specs.View.{view}
-use Rattle.statement.specs.Measured.{InYear, measured_of_list, DayMeasured, SeasonTold}
+use Rattle.statement.specs.Measured.{InYear, DayMeasured, SeasonTold}
 use Rattle.statement.proofs.SeasonHours.{room_for_day, counts_more, hours_again, no_fault, first_fault, hours_counted}
 use Rattle.statement.proofs.measure.measure_season.Goals as goal
 

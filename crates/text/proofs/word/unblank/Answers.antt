@@ -1,4 +1,4 @@
-use Rattle.std.proofs.Common.{◌≡◌, length, IsUtf8, sym, ap, ◌∙◌, subst, arith}
+use Rattle.std.proofs.Common.{length, IsUtf8, ap, ◌∙◌, subst, arith}
 use Rattle.std.proofs.lemmas.List.{drop_all}
 use Rattle.text.specs.declared.parts.Mark.TheVariants.{Blank}
 use Rattle.text.proofs.Marks.{in_text, within_text}

@@ -1,4 +1,4 @@
-use Rattle.std.proofs.Common.{◌≡◌, ◌-◌, sym, refl, ap, ◌∙◌, inl, inr, arith, length-set}
+use Rattle.std.proofs.Common.{◌-◌, sym, refl, ◌∙◌, inl, inr, arith, length-set}
 use Rattle.tariff.specs.Comparison.{comparable, comparison_days}
 use Rattle.season.specs.View.{view}
 use Rattle.season.proofs.LatestDays.{one_more, none_more, ten_found, all_before}
