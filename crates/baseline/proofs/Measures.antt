@@ -1,6 +1,6 @@
 -- Events measured from the loads that were read are measured as the tariff says.
 use Rattle.std.proofs.Common.{◌≡◌, ℕ, ◌+◌, ◌-◌, ◌<◌, ◌≤◌, List, [], ◌∷◌, ◌++◌, map, length, get_or, take, set, replicate, Some, None, Ok, Err, Result, sym, refl, ap, ◌∙◌, ap₂, arith}
-use Rattle.std.specs.List.{range_with_len, AllByRecursion as All}
+use Rattle.std.specs.List.{range_with_len, AllByRecursion}
 use Rattle.std.proofs.lemmas.List.FromFn.{length-range_with_len, get_or-range_with_len, length-map-range_with_len, map-range_with_len_more}
 use Rattle.std.proofs.ByRecursion.{All-get_or}
 use Rattle.std.proofs.lemmas.List.{get_or-map, take_at}
@@ -52,7 +52,7 @@ module _ (t : Table) (days : List ℕ) (d : ℕ) where
 
 -- ---- measuring
 
-pub map_alike : {X Y Z : Type 0} (f g : Y → Z) (k : X → Y) (xs : List X) → All (λ x. f (k x) ≡ g (k x)) xs → map f (map k xs) ≡ map g (map k xs)
+pub map_alike : {X Y Z : Type 0} (f g : Y → Z) (k : X → Y) (xs : List X) → AllByRecursion (λ x. f (k x) ≡ g (k x)) xs → map f (map k xs) ≡ map g (map k xs)
 map_alike f g k [] e = refl
 map_alike f g k (x ∷ xs) e = ap₂ ◌∷◌ e.0 (map_alike f g k xs e.1)
 
@@ -133,7 +133,7 @@ module _ (x : EventLoads) (e : EventSpan) (nominated : ℕ) where
       let long : length all ≡ e.length = ap length (sym same) ∙ length-map-range_with_len hour_at e.start e.length in
       ap₂ (λ (hs : List MeasuredHour) (n : ℕ). record { hours = hs; count = n }) (q ∙ ap (filled no_measured 4) same) (sym long)
 
-pub bounds_of : (hours : List MeasuredHour) (n : ℕ) → n ≤ 4 → length hours ≡ 4 → All Fair hours → Bounded (record { hours = hours; count = n })
+pub bounds_of : (hours : List MeasuredHour) (n : ℕ) → n ≤ 4 → length hours ≡ 4 → AllByRecursion Fair hours → Bounded (record { hours = hours; count = n })
 bounds_of hours n l long fair = record {
   within = l;
   reduced = λ k h. (All-get_or Fair hours k no_measured (omega arith) fair).0;

@@ -1,7 +1,7 @@
 -- What was read of days gives the tariff's own totals and bases.
 use Rattle.std.proofs.Common.{◌≡◌, ℕ, ◌+◌, ◌<◌, List, [], ◌∷◌, map, length, get_or, Some, None, Ok, Err, sum_by, Result, sym, refl, ap, ◌∙◌, ap₂, arith}
 use lib.ListN.{length-map}
-use Rattle.std.specs.List.{range_with_len, AllByRecursion as All}
+use Rattle.std.specs.List.{range_with_len, AllByRecursion}
 use Rattle.std.proofs.lemmas.List.FromFn.{length-range_with_len, get_or-range_with_len}
 use Rattle.std.proofs.ByRecursion.{All-take}
 use Rattle.std.proofs.lemmas.List.{get_or-map}
@@ -38,14 +38,14 @@ module _ (t : Table) where
   load_shown : (days : List ℕ) (h p : ℕ) → h < 24 → p < length days → load_at (map (day_loads t) days) h p ≡ load t (get_or days p 0) h
   load_shown days h p l w = ap (λ loads. get_or loads h 0) (get_or-map (day_loads t) days p 0 [] w) ∙ loads_at (get_or days p 0) h l
 
-  sum_shown : (days : List ℕ) (h : ℕ) → h < 24 → (places : List ℕ) → All (λ p. p < length days) places → sum_at (map (day_loads t) days) places h ≡ sum_by (λ d. load t d h) (map (λ p. get_or days p 0) places)
+  sum_shown : (days : List ℕ) (h : ℕ) → h < 24 → (places : List ℕ) → AllByRecursion (λ p. p < length days) places → sum_at (map (day_loads t) days) places h ≡ sum_by (λ d. load t d h) (map (λ p. get_or days p 0) places)
   unfolding sum_at
   sum_shown days h l [] w = refl
   sum_shown days h l (p ∷ places) w =
       sum_by-cons (load_at (map (day_loads t) days) h) p places ∙ ap₂ ◌+◌ (load_shown days h p l w.0) (sum_shown days h l places w.1) ∙ sym (sum_by-cons (λ d. load t d h) (get_or days p 0) (map (λ q. get_or days q 0) places))
 
   -- the places of the three highest are places of days
-  places_within : (days : List ℕ) → All (λ p. p < length days) (three_highest (map (afternoon t) days))
+  places_within : (days : List ℕ) → AllByRecursion (λ p. p < length days) (three_highest (map (afternoon t) days))
   unfolding three_highest
   places_within days =
       let totals : List ℕ = map (afternoon t) days in

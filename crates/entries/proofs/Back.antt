@@ -1,7 +1,7 @@
 -- Written entries read back. Assumes nothing.
 use Rattle.std.proofs.Common.{◌≡◌, ℕ, ◌<◌, Bool, true, false, not, ◌&&◌, List, [], ◌∷◌, length, Some, Ok, codes, decimal, sym, refl, ap, ◌∙◌, arith, lit<}
 use Rattle.std.proofs.lemmas.Bool.{and_parts}
-use Rattle.std.specs.List.{AllByRecursion as All}
+use Rattle.std.specs.List.{AllByRecursion}
 use Rattle.std.specs.Option.{ok_or}
 use Rattle.meter.specs.declared.kind.TableKind.{TableKind}
 use Rattle.meter.specs.declared.kind.TableKind.TheVariants.{Hourly, Quarter}
@@ -44,7 +44,7 @@ numeral : (n : ℕ) → Number32 n → ProperWord (decimal n)
 numeral n h = record { some = numeral_some n h; no_blank = free_numeral n h blank spares_blank; no_hash = free_numeral n h hash spares_hash; no_end = free_numeral n h line_end spares_line_end }
 
 -- words with a space between two of them lack what each of them lacks
-without_spaced : (p : ℕ → Bool) → p 32 ≡ false → (ws : List (List ℕ)) → All (Without p) ws → Without p (spaced ws)
+without_spaced : (p : ℕ → Bool) → p 32 ≡ false → (ws : List (List ℕ)) → AllByRecursion (Without p) ws → Without p (spaced ws)
 without_spaced p e [] h = tt
 without_spaced p e (w ∷ []) h = h.0
 without_spaced p e (w ∷ v ∷ vs) h = free_append p w (32 ∷ spaced (v ∷ vs)) h.0 (e, without_spaced p e (v ∷ vs) h.1)
@@ -160,14 +160,14 @@ fit_word h = (h.no_hash, h.no_end)
 fit_number : (n : ℕ) → Number32 n → Fit (decimal n)
 fit_number n h = fit_word (numeral n h)
 
-call_fit : (c : Call) → ProperCall c → All Fit (call_words c)
+call_fit : (c : Call) → ProperCall c → AllByRecursion Fit (call_words c)
 call_fit (Enrol m k kw) (h, i, j) = (fit_plain (codes "enrol") refl refl, (fit_number m h, (fit_number k i, (fit_number kw j, tt))))
 call_fit (Nominate m s w kw) (h, i, j, k) = (fit_plain (codes "nominate") refl refl, (fit_number m h, (fit_number s i, (fit_number w j, (fit_number kw k, tt)))))
 call_fit (Announce m s n) (h, i, j) = (fit_plain (codes "announce") refl refl, (fit_number m h, (fit_number s i, (fit_number n j, tt))))
 call_fit (Revoke m) h = (fit_plain (codes "revoke") refl refl, (fit_number m h, tt))
 call_fit Close h = (fit_plain (codes "close") refl refl, tt)
 
-words_fit : (a : Asked) → Proper a → All Fit (entry_words a)
+words_fit : (a : Asked) → Proper a → AllByRecursion Fit (entry_words a)
 words_fit (asks_label t) h = (fit_plain (codes "label") refl refl, ((h.no_hash, h.no_end), tt))
 words_fit (asks_open y) h = (fit_plain (codes "open") refl refl, (fit_number y h, tt))
 words_fit (asks_call c) h = call_fit c h
@@ -176,11 +176,11 @@ words_fit (asks_pair n a b) (g, h, i) = (fit_plain (codes "meter") refl refl, (f
 words_fit (asks_statement s n) (h, i) = (fit_plain (codes "statement") refl refl, (fit_number s h, (fit_word i, tt)))
 words_fit (asks_compare s a b) (h, i, j) = (fit_plain (codes "compare") refl refl, (fit_number s h, (fit_word i, (fit_word j, tt))))
 
-hashless : (ws : List (List ℕ)) → All Fit ws → All (Without hash) ws
+hashless : (ws : List (List ℕ)) → AllByRecursion Fit ws → AllByRecursion (Without hash) ws
 hashless [] h = tt
 hashless (w ∷ ws) h = (h.0.0, hashless ws h.1)
 
-endless : (ws : List (List ℕ)) → All Fit ws → All (Without line_end) ws
+endless : (ws : List (List ℕ)) → AllByRecursion Fit ws → AllByRecursion (Without line_end) ws
 endless [] h = tt
 endless (w ∷ ws) h = (h.0.1, endless ws h.1)
 

@@ -3,7 +3,7 @@ use Rattle.std.proofs.Common.{◌≡◌, ℕ, ◌<◌, Bool, true, false, cond, 
 use Rattle.std.proofs.lemmas.List.{reverse-append, reverse-reverse}
 use Rattle.std.proofs.lemmas.Result.{IfOk-at_ok}
 use Rattle.std.proofs.lemmas.Bool.{cond_both, leb-true, eqb-false}
-use Rattle.std.specs.List.{AllByRecursion as All}
+use Rattle.std.specs.List.{AllByRecursion}
 use Rattle.std.specs.Str.{all_ascii_digits, bytes_eq}
 use Rattle.std.specs.Option.{ok_or}
 use Rattle.text.specs.declared.number.NumberFault.{NumberFault}
@@ -50,7 +50,7 @@ number_small (c ∷ cs) =
     let n = number_from 0 (c ∷ cs) in
     either Number32 (all_ascii_digits (c ∷ cs)) (within_32_bits n) _ (cond_both (leb n 4294967295) (Ok n) (Err TooLarge) (λ r. IfOk r Number32) (λ e. leb-true n 4294967295 e) (λ e. tt)) tt
 
-meaning_has : {X : Type 0} (P : X → Type 0) (fault : EntryFault) (ps : List (List ℕ × X)) (w : List ℕ) → All (λ p. P p.1) ps → IfOk (meaning fault ps w) P
+meaning_has : {X : Type 0} (P : X → Type 0) (fault : EntryFault) (ps : List (List ℕ × X)) (w : List ℕ) → AllByRecursion (λ p. P p.1) ps → IfOk (meaning fault ps w) P
 meaning_has P fault [] w h = tt
 meaning_has P fault (p ∷ ps) w h = either P (bytes_eq w p.0) (Ok p.1) (meaning fault ps w) h.0 (meaning_has P fault ps w h.1)
 

@@ -3,7 +3,7 @@ use Rattle.std.proofs.Common.{◌≡◌, ℕ, Bool, true, false, cond, eqb, List
 use Rattle.std.proofs.lemmas.Slice.Eq.{bytes_eq-Decides}
 use Rattle.std.proofs.lemmas.Bool.{eqb-true, eqb-false}
 use Rattle.std.proofs.lemmas.Result.{err_from_is_err_and}
-use Rattle.std.specs.List.{AllByRecursion as All}
+use Rattle.std.specs.List.{AllByRecursion}
 use Rattle.std.specs.Str.{bytes_eq}
 use Rattle.entries.specs.declared.entry.EntryFault.{EntryFault}
 use Rattle.meter.specs.declared.kind.TableKind.{TableKind}
@@ -36,7 +36,7 @@ differ true is not = absurd (not (is refl))
 differ false is not = refl
 
 -- a word that is none of those in the list
-pub no_meaning : {X : Type 0} (fault : EntryFault) (ps : List (List ℕ × X)) (w : List ℕ) → All (λ p. w ≡ p.0 → ⊥) ps → Err fault ≡ meaning fault ps w
+pub no_meaning : {X : Type 0} (fault : EntryFault) (ps : List (List ℕ × X)) (w : List ℕ) → AllByRecursion (λ p. w ≡ p.0 → ⊥) ps → Err fault ≡ meaning fault ps w
 no_meaning fault [] w h = refl
 no_meaning fault (p ∷ ps) w h =
     no_meaning fault ps w h.1 ∙ ap (λ b. cond b (Ok p.1) (meaning fault ps w)) (sym (differ (bytes_eq w p.0) (bytes_eq-Decides w p.0).0 h.0))

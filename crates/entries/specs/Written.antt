@@ -1,6 +1,6 @@
 -- An entry written as a line. Assumes nothing.
 use Rattle.std.specs.Prelude.{◌≡◌, ℕ, ◌<◌, ◌≤◌, Bool, false, List, [], ◌∷◌, ◌++◌, length, Some, Ok, codes, decimal}
-use Rattle.std.specs.List.{AllByRecursion as All}
+use Rattle.std.specs.List.{AllByRecursion}
 use Rattle.meter.specs.declared.kind.TableKind.{TableKind}
 use Rattle.meter.specs.declared.kind.TableKind.TheVariants.{Hourly, Quarter}
 use Rattle.tariff.specs.declared.call.Call.{Call}
@@ -44,7 +44,7 @@ entry_text a = spaced (entry_words a)
 
 -- no byte of the text passes the test
 abbrev pub Without : (ℕ → Bool) → List ℕ → Type 0
-Without p bs = All (λ b. p b ≡ false) bs
+Without p bs = AllByRecursion (λ b. p b ≡ false) bs
 
 -- a number of 32 bits
 abbrev pub Number32 : ℕ → Type 0

@@ -1,6 +1,6 @@
 -- At a year's own weeks and programme days, and a site's nominations, a statement is the tariff's.
 use Rattle.std.proofs.Common.{◌≡◌, ℕ, ◌-◌, ◌≤◌, Bool, true, false, cond, eqb, List, [], ◌∷◌, map, get_or, filter, refl, ap, ◌∙◌, arith}
-use Rattle.std.specs.List.{range_with_len, AllByRecursion as All}
+use Rattle.std.specs.List.{range_with_len, AllByRecursion}
 use Rattle.tariff.specs.Calendar.{week_of, in_week}
 use Rattle.tariff.specs.Pay.{priced, week_line_of, week_line, week_lines, hours_in_week, incentive_of, charged_of, written, paid_for}
 use Rattle.tariff.specs.Season.{nomination_for}
@@ -16,14 +16,14 @@ kept_one p ks ms e true = ap (λ ns. p.measured ∷ ns) e
 kept_one p ks ms e false = e
 
 module _ (year w : ℕ) where
-  kept_same : (hours : List PlacedHour) → All (λ p. p.week ≡ week_of year p.measured.day) hours → measured_list (filter (λ p. eqb p.week w) hours) ≡ filter (λ m. in_week year w m.day) (measured_list hours)
+  kept_same : (hours : List PlacedHour) → AllByRecursion (λ p. p.week ≡ week_of year p.measured.day) hours → measured_list (filter (λ p. eqb p.week w) hours) ≡ filter (λ m. in_week year w m.day) (measured_list hours)
   kept_same [] h = refl
   kept_same (p ∷ hours) h =
       let ks : List PlacedHour = filter (λ q. eqb q.week w) hours in
       let ms : List MeasuredHour = filter (λ m. in_week year w m.day) (measured_list hours) in
       kept_one p ks ms (kept_same hours h.1) (eqb p.week w) ∙ ap (λ n. cond (eqb n w) (p.measured ∷ ms) ms) h.0
 
-  week_same : (hours : List PlacedHour) → All (λ p. p.week ≡ week_of year p.measured.day) hours → measured_in_week w hours ≡ hours_in_week year w (measured_list hours)
+  week_same : (hours : List PlacedHour) → AllByRecursion (λ p. p.week ≡ week_of year p.measured.day) hours → measured_in_week w hours ≡ hours_in_week year w (measured_list hours)
   unfolding measured_in_week hours_in_week
   week_same hours h = kept_same hours h
 

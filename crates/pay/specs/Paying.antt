@@ -1,6 +1,6 @@
 -- What measured hours pay and cost, where each is given with its week, and the weeks with their programme days.
 use Rattle.std.specs.Prelude.{◌≡◌, ℕ, ◌-◌, ◌/◌, ◌≤◌, min, List, map, filter, nat_eq, slice_index}
-use Rattle.std.specs.List.{range_with_len, AllByRecursion as All}
+use Rattle.std.specs.List.{range_with_len, AllByRecursion}
 use Rattle.tariff.specs.Calendar.{week_of, last_week, programme_days}
 use Rattle.tariff.specs.Pay.{priced, week_line_of, incentive_of, charged_of, written, paid_for}
 use Rattle.tariff.specs.declared.season.Site.{Site}
@@ -52,7 +52,7 @@ totalled hours weeks incentive charged =
 
 -- the weeks of the hours, the nominations, the programme days and the last week are those of a year and a site
 pub record OfYear (year : ℕ) (x : Site) (hours : List PlacedHour) (nominations days : List ℕ) (last : ℕ) : Type 0 where
-  pub in_weeks : All (λ p. p.week ≡ week_of year p.measured.day) hours
+  pub in_weeks : AllByRecursion (λ p. p.week ≡ week_of year p.measured.day) hours
   pub of_site : nominations ≡ x.weeks
   pub to_last : last ≡ last_week year
   pub of_weeks : (w : ℕ) → 1 ≤ w → w ≤ last → slice_index days (w - 1) ≡ programme_days year w

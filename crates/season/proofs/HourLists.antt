@@ -1,6 +1,6 @@
 -- The hours of standing events as they are listed: one hour more, one day more, and what is known of each hour.
 use Rattle.std.proofs.Common.{◌≡◌, ℕ, zero, suc, ◌+◌, ◌-◌, ◌<◌, ◌≤◌, Bool, true, false, cond, List, [], ◌∷◌, ◌++◌, map, length, drop, set, replicate, sym, refl, ap, ◌∙◌, inl, inr, add-one, arith}
-use Rattle.std.specs.List.{AllByRecursion as All, range_with_len}
+use Rattle.std.specs.List.{AllByRecursion, range_with_len}
 use Rattle.std.proofs.lemmas.List.FromFn.{map-range_with_len_more}
 use Rattle.std.proofs.lemmas.List.{append_assoc, append-nil, drop-drop, drop-set-lt, drop-replicate}
 use Rattle.std.proofs.lemmas.Bool.{cases_eq}
@@ -72,7 +72,7 @@ standing_few days (suc n) =
     cond_most true = omega arith
     cond_most false = omega arith
 
-pub all_placed : (s : model.Season) (n : ℕ) → Sound s → n ≤ 76 → All (Placed s) (event_hours_before s.days n)
+pub all_placed : (s : model.Season) (n : ℕ) → Sound s → n ≤ 76 → AllByRecursion (Placed s) (event_hours_before s.days n)
 all_placed s n sound most =
     all_event_hours (Placed s) s.days n (λ d h lt Stood-on from to.
     let f = standing_fit s d sound Stood-on in

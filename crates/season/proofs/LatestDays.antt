@@ -1,6 +1,6 @@
 -- The latest days that pass a test, one day at a time.
 use Rattle.std.proofs.Common.{◌≡◌, ℕ, suc, ◌+◌, ◌-◌, ◌<◌, ◌≤◌, Bool, true, false, ◌&&◌, ltb, ◌⊎◌, List, [], ◌∷◌, ◌++◌, length, take, set, sym, refl, ap, ◌∙◌, ⊎_elim, arith}
-use Rattle.std.specs.List.{AllByRecursion as All}
+use Rattle.std.specs.List.{AllByRecursion}
 use Rattle.std.proofs.lemmas.List.{append_assoc, append-nil, length-take, take_all, take_more_set}
 use Rattle.std.proofs.lemmas.Bool.{cond-true, cond-false, and_from, and_left, and_right, lt-ltb, le-ltb}
 use Rattle.tariff.specs.Comparison.{comparable, comparison_days, latest}
@@ -56,6 +56,6 @@ module _ (s : Season) (d : ℕ) where
       let many : length (take n days) ≡ 10 = ap length all ∙ ten_comparison_days s sound d stands in
       sym (take_all n days (omega (arith, length-take n days))) ∙ all
 
-  pub all_before : All (λ k. k < d) (comparison_days s d)
+  pub all_before : AllByRecursion (λ k. k < d) (comparison_days s d)
   unfolding comparison_days
   all_before = latest_pass (comparable s) (λ k. k < d) 10 d (λ k l _. l)

@@ -1,6 +1,6 @@
 -- Every record stands for a sound season; and what a sound season gives back to a record.
 use Rattle.std.proofs.Common.{◌≡◌, ℕ, ◌+◌, ◌*◌, ◌≤◌, Bool, true, false, not, ◌&&◌, eqb, List, [], ◌∷◌, length, replicate, Result, sym, refl, ap, ◌∙◌, subst, arith, length-take}
-use Rattle.std.specs.List.{AllByRecursion as All, list_all}
+use Rattle.std.specs.List.{AllByRecursion, list_all}
 use Rattle.std.proofs.lemmas.Bool.{false≢true, and_parts, and_from, eqb-true}
 use Rattle.std.proofs.lemmas.Bool.Decides.{nat_tests}
 use Rattle.tariff.specs.Season as model
@@ -25,11 +25,11 @@ use Rattle.season.specs.declared.sites.SiteTable.{SiteTable}
 
 -- a test that each element of a list passes, and the fact that it stands for
 
-passed : {X : Type 0} (p : X → Bool) (P : X → Type 0) → ((x : X) → p x ≡ true → P x) → (xs : List X) → list_all p xs ≡ true → All P xs
+passed : {X : Type 0} (p : X → Bool) (P : X → Type 0) → ((x : X) → p x ≡ true → P x) → (xs : List X) → list_all p xs ≡ true → AllByRecursion P xs
 passed p P f [] h = tt
 passed p P f (x ∷ xs) h = (f x (and_parts _ _ h).0, passed p P f xs (and_parts _ _ h).1)
 
-passes : {X : Type 0} (p : X → Bool) (P : X → Type 0) → ((x : X) → P x → p x ≡ true) → (xs : List X) → All P xs → list_all p xs ≡ true
+passes : {X : Type 0} (p : X → Bool) (P : X → Type 0) → ((x : X) → P x → p x ≡ true) → (xs : List X) → AllByRecursion P xs → list_all p xs ≡ true
 passes p P f [] h = refl
 passes p P f (x ∷ xs) h = and_from _ _ (f x h.0) (passes p P f xs h.1)
 

@@ -1,7 +1,7 @@
 -- What one day leaves: nothing where no event stands, and else its hours or its fault.
 use Rattle.std.proofs.Common.{◌≡◌, ℕ, zero, suc, ◌+◌, ◌-◌, ◌≤◌, false, cond, List, [], ◌∷◌, ◌++◌, map, length, get_or, take, replicate, Some, None, Ok, Err, Option, sym, refl, ap, ◌∙◌, subst, ap₂, append-nil, arith}
 use lib.ListN.{length-map}
-use Rattle.std.specs.List.{range_with_len, AllByRecursion as All}
+use Rattle.std.specs.List.{range_with_len, AllByRecursion}
 use Rattle.std.proofs.lemmas.List.FromFn.{length-range_with_len}
 use Rattle.std.proofs.ByRecursion.{All-append, All-weaker}
 use Rattle.std.proofs.lemmas.Bool.{cond-true, cond-false}
@@ -51,7 +51,7 @@ pub quiet_day : (s : Season) (x : Site) (t : Table) (d : ℕ) (held : Day) (list
     ((n : ℕ) → hours_on n d held ≡ []) →
     number ≡ event_number s.days d →
     number ≤ d + 1 →
-    All (InYear s.year) (listed list) →
+    AllByRecursion (InYear s.year) (listed list) →
     DayMeasured s x t d list list number
 quiet_day s x t d held list number e none zero-hours no_hours en low weeks =
     record {
@@ -72,7 +72,7 @@ module _ (s : Season) (x : Site) (t : Table) (d : ℕ) (e : Event) (number : ℕ
   unfolding hours_of_day
   length_hours = length-map (hours_on number d (Standing e)) (measured s x t) ∙ length-map (range_with_len e.start e.length) (event_hour number d) ∙ length-range_with_len e.start e.length
 
-  all_days : (hs : List ℕ) → All (λ m. m.day ≡ d) (map (measured s x t) (map (event_hour number d) hs))
+  all_days : (hs : List ℕ) → AllByRecursion (λ m. m.day ≡ d) (map (measured s x t) (map (event_hour number d) hs))
   all_days [] = tt
   all_days (h ∷ hs) = (refl, all_days hs)
 
@@ -85,12 +85,12 @@ module _ (s : Season) (x : Site) (t : Table) (d : ℕ) (e : Event) (number : ℕ
   unfolding hours_of_day
   count_of m p = ap (λ v. v.count) (measured_whole m p).1 ∙ length_hours ∙ sym (ap day_hours held)
 
-  get_d_any : (P : MeasuredHour → Type 0) (xs : List MeasuredHour) (k : ℕ) (o : MeasuredHour) → P o → All P xs → P (get_or xs k o)
+  get_d_any : (P : MeasuredHour → Type 0) (xs : List MeasuredHour) (k : ℕ) (o : MeasuredHour) → P o → AllByRecursion P xs → P (get_or xs k o)
   get_d_any P [] k o h a = h
   get_d_any P (y ∷ ys) zero o h a = a.0
   get_d_any P (y ∷ ys) (suc k) o h a = get_d_any P ys k o h a.1
 
-  all_unused : (P : MeasuredHour → Type 0) (o : MeasuredHour) (n : ℕ) → P o → All P (replicate n o)
+  all_unused : (P : MeasuredHour → Type 0) (o : MeasuredHour) (n : ℕ) → P o → AllByRecursion P (replicate n o)
   all_unused P o zero h = tt
   all_unused P o (suc n) h = (h, all_unused P o n h)
 
@@ -98,8 +98,8 @@ module _ (s : Season) (x : Site) (t : Table) (d : ℕ) (e : Event) (number : ℕ
   days_within m p l k =
       let P : MeasuredHour → Type 0 = λ v. v.day ≤ 75 in
       let hs : List MeasuredHour = map (measured s x t) (map (event_hour number d) (range_with_len e.start e.length)) in
-      let within : All P hs = All-weaker (λ v. v.day ≡ d) P (λ v same. omega arith) hs (all_days (range_with_len e.start e.length)) in
-      let whole : All P (filled no_measured 4 hs) = All-append P hs (replicate (4 - length hs) no_measured) within (all_unused P no_measured (4 - length hs) (omega arith)) in
+      let within : AllByRecursion P hs = All-weaker (λ v. v.day ≡ d) P (λ v same. omega arith) hs (all_days (range_with_len e.start e.length)) in
+      let whole : AllByRecursion P (filled no_measured 4 hs) = All-append P hs (replicate (4 - length hs) no_measured) within (all_unused P no_measured (4 - length hs) (omega arith)) in
       subst (λ (v : MeasuredEvent). (get_or v.hours k no_measured).day ≤ 75) (sym (measured_whole m p).1) (get_d_any P (filled no_measured 4 hs) k no_measured (omega arith) whole)
 
   -- what its hours leave
@@ -107,7 +107,7 @@ module _ (s : Season) (x : Site) (t : Table) (d : ℕ) (e : Event) (number : ℕ
       number ≤ d + 1 →
       length (listed after) ≡ length (listed before) + m.count →
       measured_of_list after ≡ measured_of_list before ++ take m.count m.hours →
-      All (InYear s.year) (listed after) →
+      AllByRecursion (InYear s.year) (listed after) →
       DayMeasured s x t d before after (number + 1)
   standing_day m before after p low counts hours weeks =
       let whole = measured_whole m p in

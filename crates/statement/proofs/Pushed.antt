@@ -1,6 +1,6 @@
 -- One measured hour more in a list.
 use Rattle.std.proofs.Common.{◌≡◌, ℕ, ◌+◌, ◌<◌, List, [], ◌∷◌, ◌++◌, length, get_or, take, sym, ap, ◌∙◌, subst, ap₂, append_assoc, arith, length-append}
-use Rattle.std.specs.List.{AllByRecursion as All}
+use Rattle.std.specs.List.{AllByRecursion}
 use Rattle.std.proofs.ByRecursion.{All-append}
 use Rattle.std.proofs.lemmas.List.{take_more, map_push}
 use Rattle.tariff.specs.declared.statement.MeasuredHour.{MeasuredHour}
@@ -16,5 +16,5 @@ module _ (list next : List PlacedHour) (hour : PlacedHour) (one : next ≡ list 
   pushed_measured start hours k d l e m =
       ap measured_list one ∙ map_push (λ (p : PlacedHour). p.measured) list hour ∙ ap₂ (λ (xs : List MeasuredHour) (x : MeasuredHour). xs ++ x ∷ []) e m ∙ append_assoc start (take k hours) (get_or hours k d ∷ []) ∙ ap (λ xs. start ++ xs) (sym (take_more hours k d l))
 
-  pub pushed_weeks : (year : ℕ) → All (InYear year) list → InYear year hour → All (InYear year) next
-  pushed_weeks year h w = subst (All (InYear year)) (sym one) (All-append (InYear year) list (hour ∷ []) h (w, tt))
+  pub pushed_weeks : (year : ℕ) → AllByRecursion (InYear year) list → InYear year hour → AllByRecursion (InYear year) next
+  pushed_weeks year h w = subst (AllByRecursion (InYear year)) (sym one) (All-append (InYear year) list (hour ∷ []) h (w, tt))

@@ -1,6 +1,6 @@
 -- What a list of measured hours holds.
 use Rattle.std.specs.Prelude.{◌≡◌, ℕ, ◌+◌, ◌≤◌, List, ◌++◌, map, length, Some, None, Ok, Err, Result}
-use Rattle.std.specs.List.{AllByRecursion as All}
+use Rattle.std.specs.List.{AllByRecursion}
 use Rattle.tariff.specs.Calendar.{week_of}
 use Rattle.tariff.specs.Events.{hours_on, day_hours, event_number}
 use Rattle.tariff.specs.Measure.{measured, measured_hours}
@@ -52,7 +52,7 @@ pub record DayMeasured (s : Season) (x : Site) (t : Table) (d : ℕ) (before aft
   pub low : next ≤ d + 2
   pub counts : length (listed after) ≡ length (listed before) + day_hours (day_at s d)
   pub hours : measured_of_list after ≡ measured_of_list before ++ map (measured s x t) (hours_on (event_number s.days d) d (day_at s d))
-  pub weeks : All (InYear s.year) (listed after)
+  pub weeks : AllByRecursion (InYear s.year) (listed after)
 
 -- a day stops a statement, or leaves that
 abbrev pub DayTold : Season → Site → Table → ℕ → HourList → HourList → Result ℕ EventFault → Type 0
@@ -64,7 +64,7 @@ pub record SeasonMeasured (s : Season) (x : Site) (t : Table) (list : HourList) 
   pub answered : season_fault s t ≡ None
   pub counts : length (listed list) ≡ length (season_event_hours s)
   pub hours : measured_of_list list ≡ measured_hours s x t
-  pub weeks : All (InYear s.year) (listed list)
+  pub weeks : AllByRecursion (InYear s.year) (listed list)
 
 abbrev pub SeasonTold : Season → Site → Table → Result HourList StatementRefusal → Type 0
 SeasonTold s x t (Ok list) = SeasonMeasured s x t list

@@ -1,5 +1,5 @@
 ghost use Rattle.std.specs.Prelude.{◌≡◌, ℕ, ◌+◌, ◌<◌, ◌≤◌, ◌++◌, length, take, slice_index_or};
-ghost use Rattle.std.specs.List.{AllByRecursion as All};
+ghost use Rattle.std.specs.List.{AllByRecursion};
 ghost use Rattle.tariff.specs.Calendar.{week_of};
 ghost use Rattle.baseline.specs.Measuring.{Bounded, no_measured};
 ghost use Rattle.pay.specs.Listed.{listed};
@@ -30,10 +30,10 @@ pub(crate) fn push_event(list: &mut HourList, year: u32, event: &MeasuredEvent)
     requires room { length (listed list.old) + event.now.count ≤ 60 }
     requires bounds { Bounded event.now }
     requires days { (k : ℕ) → k < 4 → (slice_index_or event.now.hours k no_measured).day ≤ 75 }
-    requires weeks { All (InYear year) (listed list.old) }
+    requires weeks { AllByRecursion (InYear year) (listed list.old) }
     ensures counts { length (listed list.new) ≡ length (listed list.old) + event.now.count }
     ensures hours { measured_of_list list.new ≡ measured_of_list list.old ++ take event.now.count event.now.hours }
-    ensures weeks { All (InYear year) (listed list.new) }
+    ensures weeks { AllByRecursion (InYear year) (listed list.new) }
 {
     for k in 0..event.count {
         let hour = placed(year, event.hours[k as usize]);

@@ -1,5 +1,5 @@
 ghost use Rattle.std.specs.Prelude.{◌≡◌, ◌+◌, ◌≤◌, length, if◌then◌else◌};
-ghost use Rattle.std.specs.List.{AllByRecursion as All};
+ghost use Rattle.std.specs.List.{AllByRecursion};
 ghost use Rattle.tariff.specs.Events.{day_hours, event_number, stands};
 ghost use Rattle.tariff.specs.Season.{day_at};
 ghost use Rattle.pay.specs.Listed.{listed};
@@ -39,7 +39,7 @@ fn measure_day<M: Meter>(
     requires number { number ≡ event_number (view season.now).days day }
     requires low { number ≤ day + 1 }
     requires room { length (listed list.old) + day_hours (day_at (view season.now) day) ≤ 60 }
-    requires weeks { All (InYear (view season.now).year) (listed list.old) }
+    requires weeks { AllByRecursion (InYear (view season.now).year) (listed list.old) }
     ensures told { DayTold (view season.now) site.now (M.table meter.old) day list.old list.new result }
     ensures keeps { M.table meter.new ≡ M.table meter.old }
 {

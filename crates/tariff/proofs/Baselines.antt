@@ -1,7 +1,7 @@
 -- Two tables that hold the same on every day with no standing event give the same original baselines, and the same adjusted
 -- baselines for an event if they hold the same in the two hours before its notice.
 use Rattle.std.proofs.Common.{◌≡◌, ℕ, ◌+◌, ◌-◌, ◌<◌, false, List, map, length, get_or, sum_by, ap, ◌∙◌, arith}
-use Rattle.std.specs.List.{AllByRecursion as All}
+use Rattle.std.specs.List.{AllByRecursion}
 use Rattle.std.proofs.ByRecursion.{All-get_or, All-map, All-weaker}
 use Rattle.std.proofs.lemmas.List.{length-map}
 use Rattle.std.proofs.lemmas.Bool.Decides.{nat_tests}
@@ -20,13 +20,13 @@ use Rattle.tariff.proofs.Summing.{total_same}
 abbrev pub Free : Season → ℕ → Type 0
 Free s k = (k < 76) × (standing s k ≡ false)
 
-pub comparison_free : (s : Season) (d : ℕ) → d < 76 → All (Free s) (comparison_days s d)
+pub comparison_free : (s : Season) (d : ℕ) → d < 76 → AllByRecursion (Free s) (comparison_days s d)
 unfolding comparison_days
 comparison_free s d h =
     latest_pass (comparable s) (Free s) _ d (λ k l e. (omega arith, grind (arith, nat_tests)))
 
 -- the three highest are days of those compared
-pub all_highest : (P : ℕ → Type 0) (t : Table) (days : List ℕ) → All P days → All P (highest_of t days)
+pub all_highest : (P : ℕ → Type 0) (t : Table) (days : List ℕ) → AllByRecursion P days → AllByRecursion P (highest_of t days)
 unfolding highest_of
 all_highest P t days h =
     let totals : List ℕ = map (afternoon t) days in
@@ -39,7 +39,7 @@ module _ (s : Season) (t u : Table) (same : (k h : ℕ) → k < 76 → h < 24 �
   afternoon_same k f = total_same _ _ 6 (λ h l. ap load_of (same k (14 + h) f.0 (omega arith) f.1))
 
   -- over days with no standing event
-  module _ (days : List ℕ) (free : All (Free s) days) where
+  module _ (days : List ℕ) (free : AllByRecursion (Free s) days) where
     highest_same : highest_of t days ≡ highest_of u days
     unfolding highest_of
     highest_same =

@@ -1,6 +1,6 @@
 -- The three highest are the highest.
 use Rattle.std.proofs.Common.{◌≡◌, ℕ, zero, suc, ◌+◌, ◌<◌, ◌≤◌, List, [], ◌∷◌, length, get_or, take, ap, inl, inr, arith}
-use Rattle.std.specs.List.{range_with_len, AllByRecursion as All}
+use Rattle.std.specs.List.{range_with_len, AllByRecursion}
 use Rattle.std.proofs.lemmas.List.FromFn.{length-range_with_len}
 use Rattle.std.proofs.lemmas.Bool.{cases_eq, leb-true, leb-false}
 use Rattle.tariff.specs.Highest.{total_at, ranked, ranked_in, three_highest, GoesBefore, Highest}
@@ -32,7 +32,7 @@ module _ (totals : List ℕ) where
   -- each goes before all that follow it
   abbrev InOrder : List ℕ → Type 0
   InOrder [] = Unit {0}
-  InOrder (x ∷ xs) = All (GoesBefore totals x) xs × InOrder xs
+  InOrder (x ∷ xs) = AllByRecursion (GoesBefore totals x) xs × InOrder xs
 
   -- a lower place that is no less goes before
   lower_first : (x y : ℕ) → f y ≤ f x → x < y → GoesBefore totals x y
@@ -42,13 +42,13 @@ module _ (totals : List ℕ) where
   no_less y z (inl h) = omega arith
   no_less y z (inr h) = omega arith
 
-  all_after : (x y : ℕ) (zs : List ℕ) → f y ≤ f x → All (λ z. x < z) zs → All (GoesBefore totals y) zs → All (GoesBefore totals x) zs
+  all_after : (x y : ℕ) (zs : List ℕ) → f y ≤ f x → AllByRecursion (λ z. x < z) zs → AllByRecursion (GoesBefore totals y) zs → AllByRecursion (GoesBefore totals x) zs
   all_after x y [] h l b = tt
   all_after x y (z ∷ zs) h l b =
       let n : f z ≤ f y = no_less y z b.0 in
       (lower_first x z (omega arith) l.0, all_after x y zs h l.1 b.1)
 
-  in_order_in : (x : ℕ) (ys : List ℕ) → All (λ y. x < y) ys → InOrder ys → InOrder (ranked_in f x ys)
+  in_order_in : (x : ℕ) (ys : List ℕ) → AllByRecursion (λ y. x < y) ys → InOrder ys → InOrder (ranked_in f x ys)
   unfolding ranked_in
   in_order_in x [] l o = (tt, tt)
   in_order_in x (y ∷ ys) l o =
@@ -63,7 +63,7 @@ module _ (totals : List ℕ) where
       in_order_in a (ranked f (range_with_len (a + 1) n)) (all_ranked (λ y. a < y) f (range_with_len (a + 1) n) (all_counting (λ y. a < y) (a + 1) n (λ k l m. omega arith))) (ranked_in_order (a + 1) n)
 
   -- the first three of a list in order that holds every place
-  first_three : (l : List ℕ) → 3 ≤ length l → InOrder l → All (λ p. p < length totals) l → ((p : ℕ) → p < length totals → In p l) → Highest totals (take 3 l)
+  first_three : (l : List ℕ) → 3 ≤ length l → InOrder l → AllByRecursion (λ p. p < length totals) l → ((p : ℕ) → p < length totals → In p l) → Highest totals (take 3 l)
   first_three [] long o w every = let z : ⊥ = omega arith in absurd z
   first_three (a ∷ []) long o w every = let z : ⊥ = omega arith in absurd z
   first_three (a ∷ b ∷ []) long o w every = let z : ⊥ = omega arith in absurd z
@@ -79,7 +79,7 @@ module _ (totals : List ℕ) where
         | inr i ↦ elim i [ inl e ↦ absurd (none 1 (omega arith) e) | inr j ↦ elim j [ inl e ↦ absurd (none 2 (omega arith) e) | inr k ↦ k ] ]
       ]
       in
-      let past : (x p : ℕ) → All (GoesBefore totals x) rest → In p rest → GoesBefore totals x p =
+      let past : (x p : ℕ) → AllByRecursion (GoesBefore totals x) rest → In p rest → GoesBefore totals x p =
       λ x p h i. all_in (GoesBefore totals x) p rest h i (GoesBefore totals x p) (λ y e g. rw e at g)
       in
       record {

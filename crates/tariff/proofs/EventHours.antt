@@ -1,6 +1,6 @@
 -- The hours of standing events: what holds of each of them, how many there are, and which hours of the summer they are.
 use Rattle.std.proofs.Common.{◌≡◌, ℕ, zero, suc, ◌+◌, ◌<◌, ◌≤◌, Bool, true, false, cond, ◌&&◌, ◌||◌, eqb, ltb, leb, List, [], ◌∷◌, ◌++◌, map, length, filter, sym, refl, ap, ◌∙◌, ap₂, inl, inr, add-one, arith, length-append}
-use Rattle.std.specs.List.{range_with_len, AllByRecursion as All}
+use Rattle.std.specs.List.{range_with_len, AllByRecursion}
 use Rattle.std.proofs.lemmas.List.FromFn.{length-map-range_with_len}
 use Rattle.std.proofs.lemmas.List.Elements.{filter-append}
 use Rattle.std.proofs.ByRecursion.{All-append, All-map}
@@ -106,14 +106,14 @@ week_hours_total year w days (suc n) =
 
 all_hours_on : (P : EventHour → Type 0) (number d : ℕ) (x : Day)
     → (stands x ≡ true → (h : ℕ) → (event_of x).start ≤ h → h < (event_of x).start + (event_of x).length → P (event_hour number d h))
-    → All P (hours_on number d x)
+    → AllByRecursion P (hours_on number d x)
 all_hours_on P number d NoEvent f = tt
 all_hours_on P number d (Standing e) f = All-map P (event_hour number d) (range_with_len e.start e.length) (all_counting _ e.start e.length (f refl))
 all_hours_on P number d (Revoked e) f = tt
 
 pub all_event_hours : (P : EventHour → Type 0) (days : List Day) (n : ℕ)
     → ((d h : ℕ) → d < n → stands (day_in days d) ≡ true → (event_of (day_in days d)).start ≤ h → h < (event_of (day_in days d)).start + (event_of (day_in days d)).length → P (event_hour (event_number days d) d h))
-    → All P (event_hours_before days n)
+    → AllByRecursion P (event_hours_before days n)
 unfolding event_hours_before
 all_event_hours P days zero f = tt
 all_event_hours P days (suc n) f =

@@ -1,6 +1,6 @@
 -- How a history goes with the calls that made it.
 use Rattle.std.proofs.Common.{◌≡◌, ℕ, ◌+◌, Bool, true, false, cond, List, [], ◌∷◌, ◌++◌, length, Ok, Err, Result, refl, ap, ap₂, arith}
-use Rattle.std.specs.List.{AllByRecursion as All}
+use Rattle.std.specs.List.{AllByRecursion}
 use Rattle.std.proofs.lemmas.List.{append-nil, append_assoc}
 use Rattle.tariff.specs.Calendar.{day_of}
 use Rattle.tariff.specs.Events.{event_of}
@@ -17,7 +17,7 @@ use Rattle.tariff.specs.declared.call.SeasonRefusal.{SeasonRefusal}
 
 -- no check of a call refused it
 abbrev pub Passed : List Check → Type 0
-Passed = All (λ (c : Check). c.0 ≡ false)
+Passed = AllByRecursion (λ (c : Check). c.0 ≡ false)
 
 accepted_with : {A : Type 0} (cs : List Check) (f : A → Answer) (a : A) (b : Answer) → as_answer f (checked cs a) ≡ Ok b → Passed cs × (b ≡ f a)
 accepted_with [] f a b e = (tt, cc)

@@ -1,6 +1,6 @@
 -- The hours of the standing events: each lies in its event, none is left out, and they rise by day and hour.
 use Rattle.std.proofs.Common.{◌≡◌, ℕ, zero, suc, ◌+◌, ◌-◌, ◌<◌, ◌≤◌, true, ◌⊎◌, List, [], ◌∷◌, ◌++◌, map, length, get_or, sym, refl, subst, inl, inr, arith}
-use Rattle.std.specs.List.{range_with_len, ContainsAt as Has, AllByRecursion as All}
+use Rattle.std.specs.List.{range_with_len, ContainsAt as Has, AllByRecursion}
 use Rattle.std.proofs.lemmas.List.FromFn.{length-map-range_with_len, get_or-map-range_with_len}
 use Rattle.std.proofs.ByRecursion.{All-append, All-get_or, All-map, All-weaker, has_append_left, has_append_right}
 use Rattle.std.proofs.lemmas.Bool.{cases_eq, false≢true}
@@ -9,7 +9,7 @@ use Rattle.tariff.specs.declared.season.EventHour.{EventHour}
 use Rattle.tariff.specs.declared.season.Day.{Day}
 use Rattle.tariff.specs.declared.season.Day.TheVariants.{NoEvent, Standing, Revoked}
 
-all_counting : (P : ℕ → Type 0) (a n : ℕ) → ((k : ℕ) → a ≤ k → k < a + n → P k) → All P (range_with_len a n)
+all_counting : (P : ℕ → Type 0) (a n : ℕ) → ((k : ℕ) → a ≤ k → k < a + n → P k) → AllByRecursion P (range_with_len a n)
 all_counting P a zero h = tt
 all_counting P a (suc n) h = (h a (omega arith) (omega arith), all_counting P (a + 1) n (λ k l m. h k (omega arith) (omega arith)))
 
@@ -23,7 +23,7 @@ pub record On (number d : ℕ) (x : Day) (p : EventHour) : Type 0 where
   pub begun : (event_of x).start ≤ p.hour
   pub not_over : p.hour < (event_of x).start + (event_of x).length
 
-each_on : (number d : ℕ) (x : Day) → All (On number d x) (hours_on number d x)
+each_on : (number d : ℕ) (x : Day) → AllByRecursion (On number d x) (hours_on number d x)
 each_on number d NoEvent = tt
 each_on number d (Standing e) =
     All-map (On number d (Standing e)) (event_hour number d) (range_with_len e.start e.length)
@@ -42,9 +42,9 @@ Before p q = (p.day < q.day) ⊎ ((p.day ≡ q.day) × (p.hour < q.hour))
 
 abbrev Rising : List EventHour → Type 0
 Rising [] = Unit {0}
-Rising (p ∷ ps) = All (Before p) ps × Rising ps
+Rising (p ∷ ps) = AllByRecursion (Before p) ps × Rising ps
 
-rising_append : (ps qs : List EventHour) → Rising ps → Rising qs → All (λ p. All (Before p) qs) ps → Rising (ps ++ qs)
+rising_append : (ps qs : List EventHour) → Rising ps → Rising qs → AllByRecursion (λ p. AllByRecursion (Before p) qs) ps → Rising (ps ++ qs)
 rising_append [] qs a b c = b
 rising_append (p ∷ ps) qs a b c = (All-append (Before p) ps qs a.0 c.0, rising_append ps qs a.1 b c.1)
 
@@ -74,7 +74,7 @@ module _ (days : List Day) where
   abbrev pub Listed : ℕ → EventHour → Type 0
   Listed n p = (p.day < n) × On (event_number days p.day) p.day (day_in days p.day) p
 
-  listed : (n : ℕ) → All (Listed n) (event_hours_before days n)
+  listed : (n : ℕ) → AllByRecursion (Listed n) (event_hours_before days n)
   unfolding event_hours_before
   listed zero = tt
   listed (suc n) =
@@ -100,7 +100,7 @@ module _ (days : List Day) where
   rising_hours zero = tt
   rising_hours (suc n) =
       rising_append (event_hours_before days n) (hours_on (event_number days n) n (day_in days n)) (rising_hours n) (rising_on (event_number days n) n (day_in days n))
-      (All-weaker (Listed n) (λ p. All (Before p) (hours_on (event_number days n) n (day_in days n)))
+      (All-weaker (Listed n) (λ p. AllByRecursion (Before p) (hours_on (event_number days n) n (day_in days n)))
       (λ p h. All-weaker (On (event_number days n) n (day_in days n)) (Before p) (λ q g. inl (omega arith)) (hours_on (event_number days n) n (day_in days n)) (each_on (event_number days n) n (day_in days n)))
       (event_hours_before days n) (listed n))
 

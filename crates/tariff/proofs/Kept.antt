@@ -1,6 +1,6 @@
 -- What a call leaves: the season as it was, or the new one, and then no check refused it.
 use Rattle.std.proofs.Common.{◌≡◌, Bool, true, false, cond, List, [], ◌∷◌, Ok, Err, Result, refl}
-use Rattle.std.specs.List.{AllByRecursion as All}
+use Rattle.std.specs.List.{AllByRecursion}
 use Rattle.tariff.specs.Season.{Season}
 use Rattle.tariff.specs.Calls.{Check, checked, as_answer, after, after_taken}
 use Rattle.tariff.specs.declared.call.Call.{Call}
@@ -9,7 +9,7 @@ use Rattle.tariff.specs.declared.call.SeasonRefusal.{SeasonRefusal}
 
 -- no check refuses
 abbrev pub Passed : List Check → Type 0
-Passed = All (λ (c : Check). c.0 ≡ false)
+Passed = AllByRecursion (λ (c : Check). c.0 ≡ false)
 
 pub kept : {A : Type 0} (P : Season → Type 0) (s : Season) (c : Call) (f : A → Answer) (cs : List Check) (a : A)
     → P s → (Passed cs → P (after_taken s c (f a))) → P (after s c (as_answer f (checked cs a)))

@@ -1,6 +1,6 @@
 -- The latest days that pass a test: each passes, they fall, and they are those with fewer passing days between.
 use Rattle.std.proofs.Common.{◌≡◌, ℕ, zero, suc, ◌+◌, ◌-◌, ◌<◌, ◌≤◌, min, Bool, true, cond, ◌&&◌, ltb, ◌⊎◌, List, [], ◌∷◌, length, sym, refl, inl, inr, arith}
-use Rattle.std.specs.List.{ContainsAt as Has, AllByRecursion as All}
+use Rattle.std.specs.List.{ContainsAt as Has, AllByRecursion}
 use Rattle.std.proofs.ByRecursion.{has_append_right}
 use Rattle.std.proofs.lemmas.Bool.{cond_both, cases_eq, and_parts}
 use Rattle.std.proofs.lemmas.Bool.Decides.{nat_tests}
@@ -13,11 +13,11 @@ has_cases y xs x (zero, l, h) = inl (sym (h 0))
 has_cases y xs x (suc k, l, h) = inr (k, omega arith, h)
 
 module _ (p : ℕ → Bool) where
-  pub latest_pass : (P : ℕ → Type 0) (wanted n : ℕ) → ((k : ℕ) → k < n → p k ≡ true → P k) → All P (latest p wanted n)
+  pub latest_pass : (P : ℕ → Type 0) (wanted n : ℕ) → ((k : ℕ) → k < n → p k ≡ true → P k) → AllByRecursion P (latest p wanted n)
   unfolding latest
   latest_pass P wanted zero h = tt
   latest_pass P wanted (suc n) h =
-      cond_both (p n && ltb 0 wanted) (n ∷ latest p (wanted - 1) n) (latest p wanted n) (All P)
+      cond_both (p n && ltb 0 wanted) (n ∷ latest p (wanted - 1) n) (latest p wanted n) (AllByRecursion P)
       (λ e. (h n (omega arith) (and_parts (p n) (ltb 0 wanted) e).0, latest_pass P (wanted - 1) n (λ k l. h k (omega arith))))
       (λ _. latest_pass P wanted n (λ k l. h k (omega arith)))
 

@@ -1,7 +1,7 @@
 -- Lists alike place by place, and what functions that agree on a list's elements make of it.
 use Rattle.std.proofs.Common.{◌≡◌, ℕ, zero, suc, ◌+◌, ◌-◌, ◌<◌, ◌≤◌, Bool, List, [], ◌∷◌, ◌++◌, map, reverse, length, get_or, set, replicate, sum_by, filter, Option, sym, refl, ap, ◌∙◌, ap₂, inl, inr, append_assoc, arith, length-append}
 use mathlib.Core.List.{reverse_aux}
-use Rattle.std.specs.List.{AllZip, AllByRecursion as All}
+use Rattle.std.specs.List.{AllZip, AllByRecursion}
 use Rattle.std.proofs.lemmas.List.Elements.{length_all_zip}
 use Rattle.std.proofs.lemmas.List.{set_at}
 use Rattle.std.proofs.lemmas.List.Sums.{sum_by-cons}
@@ -11,24 +11,24 @@ use Rattle.tariff.specs.Pay.{filled}
 
 -- ---- elements
 
-pub all_reversed : {X : Type 0} (P : X → Type 0) (xs : List X) → All P xs → All P (reverse xs)
+pub all_reversed : {X : Type 0} (P : X → Type 0) (xs : List X) → AllByRecursion P xs → AllByRecursion P (reverse xs)
 all_reversed {X} P xs h = onto xs [] h tt
   where
-    onto : (ys zs : List X) → All P ys → All P zs → All P (reverse_aux ys zs)
+    onto : (ys zs : List X) → AllByRecursion P ys → AllByRecursion P zs → AllByRecursion P (reverse_aux ys zs)
     onto [] zs h k = k
     onto (y ∷ ys) zs h k = onto ys (y ∷ zs) h.1 (h.0, k)
 
 -- ---- functions that agree
 
-pub sumBy_same : {X : Type 0} (f g : X → ℕ) (xs : List X) → All (λ x. f x ≡ g x) xs → sum_by f xs ≡ sum_by g xs
+pub sumBy_same : {X : Type 0} (f g : X → ℕ) (xs : List X) → AllByRecursion (λ x. f x ≡ g x) xs → sum_by f xs ≡ sum_by g xs
 sumBy_same f g [] h = refl
 sumBy_same f g (x ∷ xs) h = sum_by-cons f x xs ∙ ap₂ ◌+◌ h.0 (sumBy_same f g xs h.1) ∙ sym (sum_by-cons g x xs)
 
-pub map_same : {A X : Type 0} (f g : A → X) (xs : List A) → All (λ a. f a ≡ g a) xs → map f xs ≡ map g xs
+pub map_same : {A X : Type 0} (f g : A → X) (xs : List A) → AllByRecursion (λ a. f a ≡ g a) xs → map f xs ≡ map g xs
 map_same f g [] h = refl
 map_same f g (x ∷ xs) h = ap₂ ◌∷◌ h.0 (map_same f g xs h.1)
 
-pub first_same : {A X : Type 0} (f g : A → Option X) (xs : List A) → All (λ a. f a ≡ g a) xs → first_some f xs ≡ first_some g xs
+pub first_same : {A X : Type 0} (f g : A → Option X) (xs : List A) → AllByRecursion (λ a. f a ≡ g a) xs → first_some f xs ≡ first_some g xs
 unfolding first_some
 first_same f g [] h = refl
 first_same f g (x ∷ xs) h = cc (h.0, first_same f g xs h.1)
@@ -42,7 +42,7 @@ module _ {X : Type 0} (R : X → X → Type 0) where
   each_append (x ∷ xs) [] us vs h k = absurd h
   each_append (x ∷ xs) (y ∷ ys) us vs h k = (h.0, each_append xs ys us vs h.1 k)
 
-  pub each_map : {A : Type 0} (f g : A → X) (zs : List A) → All (λ a. R (f a) (g a)) zs → AllZip R (map f zs) (map g zs)
+  pub each_map : {A : Type 0} (f g : A → X) (zs : List A) → AllByRecursion (λ a. R (f a) (g a)) zs → AllZip R (map f zs) (map g zs)
   each_map f g [] h = tt
   each_map f g (z ∷ zs) h = (h.0, each_map f g zs h.1)
 

@@ -1,11 +1,11 @@
 -- A ranking: what it holds, how long it is, and its first few.
 use Rattle.std.proofs.Common.{◌≡◌, ℕ, zero, suc, ◌+◌, ◌<◌, ◌≤◌, true, false, cond, leb, ◌⊎◌, List, [], ◌∷◌, length, take, sym, refl, ap, ◌∙◌, inl, inr, arith}
-use Rattle.std.specs.List.{range_with_len, AllByRecursion as All}
+use Rattle.std.specs.List.{range_with_len, AllByRecursion}
 use Rattle.std.proofs.lemmas.List.{take-take}
 use Rattle.std.proofs.lemmas.Bool.{le-leb, lt-leb, cases_eq, cond-true, cond-false, cond_both}
 use Rattle.tariff.specs.Highest.{ranked, ranked_in}
 
-pub all_counting : (P : ℕ → Type 0) (a n : ℕ) → ((k : ℕ) → a ≤ k → k < a + n → P k) → All P (range_with_len a n)
+pub all_counting : (P : ℕ → Type 0) (a n : ℕ) → ((k : ℕ) → a ≤ k → k < a + n → P k) → AllByRecursion P (range_with_len a n)
 all_counting P a zero h = tt
 all_counting P a (suc n) h = (h a (omega arith) (omega arith), all_counting P (a + 1) n (λ k l m. h k (omega arith) (omega arith)))
 
@@ -19,7 +19,7 @@ in_counting p a zero h k = let z : ⊥ = omega arith in absurd z
 in_counting p a (suc n) h k =
     elim (cases_eq a p) [ inl e ↦ inl e | inr e ↦ inr (in_counting p (a + 1) n (omega arith) (omega arith)) ]
 
-pub all_in : (P : ℕ → Type 0) (p : ℕ) (xs : List ℕ) → All P xs → In p xs → (Q : Type 0) → ((x : ℕ) → x ≡ p → P x → Q) → Q
+pub all_in : (P : ℕ → Type 0) (p : ℕ) (xs : List ℕ) → AllByRecursion P xs → In p xs → (Q : Type 0) → ((x : ℕ) → x ≡ p → P x → Q) → Q
 all_in P p [] h i Q use-it = absurd i
 all_in P p (x ∷ xs) h i Q use-it = elim i [ inl e ↦ use-it x e h.0 | inr j ↦ all_in P p xs h.1 j Q use-it ]
 
@@ -41,10 +41,10 @@ module _ (f : ℕ → ℕ) (x : ℕ) where
   unfolding ranked_in
   by_way P y ys p q = cond_both (leb (f y) (f x)) (x ∷ y ∷ ys) (y ∷ ranked_in f x ys) P p q
 
-  pub all_ranked_in : (P : ℕ → Type 0) (ys : List ℕ) → P x → All P ys → All P (ranked_in f x ys)
+  pub all_ranked_in : (P : ℕ → Type 0) (ys : List ℕ) → P x → AllByRecursion P ys → AllByRecursion P (ranked_in f x ys)
   unfolding ranked_in
   all_ranked_in P [] h k = (h, tt)
-  all_ranked_in P (y ∷ ys) h k = by_way (All P) y ys (λ _. (h, k)) (λ _. (k.0, all_ranked_in P ys h k.1))
+  all_ranked_in P (y ∷ ys) h k = by_way (AllByRecursion P) y ys (λ _. (h, k)) (λ _. (k.0, all_ranked_in P ys h k.1))
 
   pub in_ranked_in : (p : ℕ) (ys : List ℕ) → (x ≡ p) ⊎ In p ys → In p (ranked_in f x ys)
   unfolding ranked_in
@@ -83,7 +83,7 @@ pub ranked_none : (f : ℕ → ℕ) → ranked f [] ≡ []
 unfolding ranked
 ranked_none f = refl
 
-pub all_ranked : (P : ℕ → Type 0) (f : ℕ → ℕ) (xs : List ℕ) → All P xs → All P (ranked f xs)
+pub all_ranked : (P : ℕ → Type 0) (f : ℕ → ℕ) (xs : List ℕ) → AllByRecursion P xs → AllByRecursion P (ranked f xs)
 unfolding ranked
 all_ranked P f [] h = tt
 all_ranked P f (x ∷ xs) h = all_ranked_in f x P (ranked f xs) h.0 (all_ranked P f xs h.1)

@@ -1,7 +1,7 @@
 -- Every season that calls have made is sound.
 use Rattle.std.proofs.Common.{◌≡◌, ℕ, zero, suc, ◌+◌, ◌-◌, ◌<◌, ◌≤◌, Bool, true, false, cond, List, [], ◌∷◌, length, get_or, take, replicate, sym, refl, ap, ◌∙◌, subst, inl, inr, le_trans, le_of_eq, arith, length-append, length-set, length-take, get_or-set_other, get_or-set_same}
 use lib.ListN.{length-replicate}
-use Rattle.std.specs.List.{AllByRecursion as All}
+use Rattle.std.specs.List.{AllByRecursion}
 use Rattle.std.proofs.ByRecursion.{All-push, All-set, All-get_or, All-append, All-take}
 use Rattle.std.proofs.lemmas.Bool.{false≢true, cases_eq, eqb-true}
 use Rattle.std.proofs.lemmas.Bool.Decides.{nat_tests}
@@ -45,7 +45,7 @@ module _ (s : Season) (none : (d : ℕ) → day_at s d ≡ NoEvent) where
   no_standing_hours : standing_hours s ≡ 0
   no_standing_hours = hours_total s.days 76 ∙ total_none (λ d. day_hours (day_at s d)) 76 no_hours
 
-  eventless_sound : length s.days ≡ 76 → length s.sites ≤ 64 → All Whole s.sites → Sound s
+  eventless_sound : length s.days ≡ 76 → length s.sites ≤ 64 → AllByRecursion Whole s.sites → Sound s
   eventless_sound summer few whole = record {
     summer = summer;
     events = λ d h. absurd (false≢true (sym (ap announced (none d)) ∙ h));
@@ -63,7 +63,7 @@ opened_sound old year = eventless_sound (opened old year) (no_event_at 76) (leng
 abbrev refit : Season → Bool → List Site → Season
 refit s c xs = record { year = s.year; closed = c; clock = s.clock; sites = xs; days = s.days }
 
-refit_sound : (s : Season) (c : Bool) (xs : List Site) → Sound s → length xs ≤ 64 → All Whole xs → Sound (refit s c xs)
+refit_sound : (s : Season) (c : Bool) (xs : List Site) → Sound s → length xs ≤ 64 → AllByRecursion Whole xs → Sound (refit s c xs)
 refit_sound s c xs a few whole = record {
   summer = a.summer;
   events = a.events;
@@ -73,7 +73,7 @@ refit_sound s c xs a few whole = record {
   whole = whole;
 }
 
-all_replicate : (P : ℕ → Type 0) (n x : ℕ) → P x → All P (replicate n x)
+all_replicate : (P : ℕ → Type 0) (n x : ℕ) → P x → AllByRecursion P (replicate n x)
 all_replicate P zero x h = tt
 all_replicate P (suc n) x h = (h, all_replicate P n x h)
 

@@ -1,6 +1,6 @@
 -- What every season is, whatever calls it has received.
 use Rattle.std.specs.Prelude.{◌≡◌, ℕ, ◌+◌, ◌*◌, ◌≤◌, true, List, length}
-use Rattle.std.specs.List.{AllByRecursion as All}
+use Rattle.std.specs.List.{AllByRecursion}
 use Rattle.tariff.specs.Calendar.{business, day_of, minute_of}
 use Rattle.tariff.specs.Calls.{run}
 use Rattle.tariff.specs.Events.{announced, event_of}
@@ -31,7 +31,7 @@ Figure k kw = (least_kw k ≤ kw) × (kw ≤ 100000)
 -- a site with a figure within its kind's bounds for each of ten weeks
 pub record Whole (x : Site) : Type 0 where
   pub ten : length x.weeks ≡ 10
-  pub figures : All (Figure x.kind) x.weeks
+  pub figures : AllByRecursion (Figure x.kind) x.weeks
   pub top : Figure x.kind x.highest
 
 -- 76 days, events that fit their days, at most 15 standing hours a week and 60 in all, and at most 64 sites
@@ -41,7 +41,7 @@ pub record Sound (s : Season) : Type 0 where
   pub weekly : (w : ℕ) → hours_of_week s w ≤ 15
   pub overall : standing_hours s ≤ 60
   pub few : length s.sites ≤ 64
-  pub whole : All Whole s.sites
+  pub whole : AllByRecursion Whole s.sites
 
 -- something that holds of every sound season
 abbrev pub OfSoundSeasons : (Season → Type 0) → Type 0

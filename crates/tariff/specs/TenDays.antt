@@ -1,6 +1,6 @@
 -- The comparison days of an event are ten, and the ten latest.
 use Rattle.std.specs.Prelude.{◌≡◌, ℕ, ◌<◌, Bool, true, false, not, ◌&&◌, List, [], ◌∷◌, length, nat_lt}
-use Rattle.std.specs.List.{ContainsAt as Has, AllByRecursion as All}
+use Rattle.std.specs.List.{ContainsAt as Has, AllByRecursion}
 use Rattle.tariff.specs.Calendar.{business}
 use Rattle.tariff.specs.Comparison.{comparison_days}
 use Rattle.tariff.specs.Counting.{count}
@@ -10,7 +10,7 @@ use Rattle.tariff.specs.Sound.{OfSoundSeasons}
 -- each number is less than those before it
 abbrev pub Falling : List ℕ → Type 0
 Falling [] = Unit {0}
-Falling (x ∷ xs) = All (λ y. y < x) xs × Falling xs
+Falling (x ∷ xs) = AllByRecursion (λ y. y < x) xs × Falling xs
 
 -- how many of the numbers strictly between a and b pass a test
 abbrev pub between : (ℕ → Bool) → ℕ → ℕ → ℕ

@@ -4,7 +4,7 @@ use Rattle.std.proofs.lemmas.Fmt.{digits_decimal, digits_value-decimal, decimal_
 use Rattle.std.proofs.lemmas.Str.Parse.{IsNumeralModel, numerals_by_fold, tells_all_ascii_digits}
 use Rattle.std.proofs.lemmas.Bool.{and_parts, le-leb, ne_eqb}
 use Rattle.std.proofs.lemmas.Bool.Decides.{nat_tests}
-use Rattle.std.specs.List.{AllByRecursion as All}
+use Rattle.std.specs.List.{AllByRecursion}
 use Rattle.std.specs.Str.{all_ascii_digits}
 use Rattle.std.specs.Char.{is_ascii_digit}
 use Rattle.text.specs.Numbers.{number_from, number_of}
@@ -13,7 +13,7 @@ use Rattle.text.proofs.Digits.{number_after, number_of_some}
 
 -- no byte of the list stops
 abbrev pub Free : (ℕ → Bool) → List ℕ → Type 0
-Free p bs = All (λ b. p b ≡ false) bs
+Free p bs = AllByRecursion (λ b. p b ≡ false) bs
 
 pub free_append : (p : ℕ → Bool) (xs ys : List ℕ) → Free p xs → Free p ys → Free p (xs ++ ys)
 free_append p [] ys h k = k

@@ -1,6 +1,6 @@
 // What a season's baselines are measured from: the hours of its standing events, and the days that an event is compared with.
 ghost use Rattle.std.specs.Prelude.{◌≡◌, ◌<◌, ◌≤◌, true, length, IfSome, if◌then◌else◌, Some, None};
-ghost use Rattle.std.specs.List.{AllByRecursion as All};
+ghost use Rattle.std.specs.List.{AllByRecursion};
 ghost use Rattle.tariff.specs.Comparison as spec;
 ghost use Rattle.tariff.specs.Events.{event_hours_before};
 ghost use Rattle.tariff.specs.Season as model;
@@ -20,7 +20,7 @@ impl Season {
         ensures counted { result.count ≡ length (event_hours_before (view self.now).days days) }
         ensures rest { RestZero result }
         ensures within { result.count ≤ 60 }
-        ensures placed { All (Placed (view self.now)) (hours_listed result) }
+        ensures placed { AllByRecursion (Placed (view self.now)) (hours_listed result) }
     {
         let mut hours = EventHours::new();
         let mut numbered = 0;
@@ -40,7 +40,7 @@ impl Season {
         ensures counted { result.count ≡ length (model.season_event_hours (view self.now)) }
         ensures rest { RestZero result }
         ensures within { result.count ≤ 60 }
-        ensures placed { All (Placed (view self.now)) (hours_listed result) }
+        ensures placed { AllByRecursion (Placed (view self.now)) (hours_listed result) }
     {
         self.hours_before(76)
     }
@@ -50,7 +50,7 @@ impl Season {
         requires stands { model.standing (view self.now) day ≡ true }
         requires within { day ≤ 75 }
         ensures is { result ≡ spec.comparison_days (view self.now) day }
-        ensures before { All (λ k. k < day) result }
+        ensures before { AllByRecursion (λ k. k < day) result }
     {
         let mut days = [0; 10];
         let mut count = 0;
@@ -66,7 +66,7 @@ impl Season {
     // The days that a day's event is compared with, the latest first, where an event stands on the day.
     pub fn comparison_days(&self, day: u32) -> Option<[u8; 10]>
         ensures is { result ≡ (if model.standing (view self.now) day then Some (spec.comparison_days (view self.now) day) else None) }
-        ensures before { IfSome result (λ days. All (λ k. k < day) days × (day ≤ 75)) }
+        ensures before { IfSome result (λ days. AllByRecursion (λ k. k < day) days × (day ≤ 75)) }
     {
         let Day::Standing(_) = self.day(day) else {
             return None;

@@ -1,6 +1,6 @@
 use Rattle.std.proofs.Common.{◌≡◌, ℕ, ◌+◌, cond, Err, sym, refl, ap, ◌∙◌, subst, arith}
 use Rattle.tariff.specs.Events.{stands}
-use Rattle.std.specs.List.{AllByRecursion as All}
+use Rattle.std.specs.List.{AllByRecursion}
 use Rattle.std.proofs.lemmas.Result.{err_from_is_err_and}
 use Rattle.tariff.specs.Season.{day_at}
 use Rattle.tariff.specs.declared.season.Day.TheVariants.{NoEvent, Standing, Revoked}
@@ -39,7 +39,7 @@ push_event-requires g c =
       room = omega (arith, count, c.requires.room);
       bounds = c.in_ok-measured-in-Standing.ensures.bounds;
       days = λ k h. days_within s x t c.args.day c.in-Standing.event c.args.number held c.requires.number m told c.requires.day k;
-      weeks = subst (λ (y : ℕ). All (InYear y) (listed c.args.list.now)) (sym c.year.ensures) c.requires.weeks;
+      weeks = subst (λ (y : ℕ). AllByRecursion (InYear y) (listed c.args.list.now)) (sym c.year.ensures) c.requires.weeks;
     }
 
 pub returns-in_ok-measured-in-Standing : goal.returns-in_ok-measured-in-Standing
@@ -50,7 +50,7 @@ returns-in_ok-measured-in-Standing g c =
     let m = c.in_ok-measured-in-Standing.measured in
     let after = c.push_event.new.list in
     let held : day_at s c.args.day ≡ Standing c.in-Standing.event = ap (day_at s) (sym c.from.ensures) ∙ sym c.day-held.ensures.is ∙ c.in-Standing.is in
-    let weeks = subst (λ (y : ℕ). All (InYear y) (listed after)) c.year.ensures c.push_event.ensures.weeks in
+    let weeks = subst (λ (y : ℕ). AllByRecursion (InYear y) (listed after)) c.year.ensures c.push_event.ensures.weeks in
     let more : c.next_number-next.result ≡ c.args.number + 1 = c.next_number-next.ensures ∙ ap (λ day. c.args.number + cond (stands day) 1 0) c.in-Standing.is in
     record {
       told = subst (DayMeasured s x t c.args.day c.args.list.now after) (sym more) (standing_day s x t c.args.day c.in-Standing.event c.args.number held c.requires.number m c.args.list.now after c.in_ok-measured-in-Standing.ensures.answer c.requires.low c.push_event.ensures.counts c.push_event.ensures.hours weeks);

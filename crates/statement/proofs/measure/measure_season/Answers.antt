@@ -1,5 +1,5 @@
 use Rattle.std.proofs.Common.{◌≡◌, map, length, Some, Err, sym, refl, ap, ◌∙◌, subst, arith, below_more}
-use Rattle.std.specs.List.{AllByRecursion as All}
+use Rattle.std.specs.List.{AllByRecursion}
 use Rattle.std.proofs.lemmas.Result.{err_from_is_err_and}
 use Rattle.tariff.specs.Events.{event_hours_before, hours_before}
 use Rattle.tariff.specs.Measure.{measured}
@@ -24,7 +24,7 @@ loop-day-init g c =
       omega arith,
       ap length none ∙ sym (hours_none s.days),
       ap measured_list none ∙ sym (ap (map (measured s c.args.site.now t)) (event_hours_none s.days)),
-      subst (All (InYear s.year)) (sym none) tt,
+      subst (AllByRecursion (InYear s.year)) (sym none) tt,
       λ k h. let z : ⊥ = omega arith in absurd z,
     )
 

@@ -1,5 +1,5 @@
 use Rattle.std.proofs.Common.{◌≡◌, ℕ, ◌+◌, ◌<◌, ◌≤◌, map, length, None}
-use Rattle.std.specs.List.{AllByRecursion as All}
+use Rattle.std.specs.List.{AllByRecursion}
 use Rattle.tariff.specs.Events.{event_number, event_hours_before, hours_before}
 use Rattle.tariff.specs.Measure.{measured}
 use Rattle.tariff.specs.Statement.{day_refusal}
@@ -17,5 +17,5 @@ invariant-loop-day g l =
     × (l.number ≤ l.day + 1)
     × (length (listed l.list) ≡ hours_before s.days l.day)
     × (measured_of_list l.list ≡ map (measured s l.site (t l.initial.meter)) (event_hours_before s.days l.day))
-    × All (InYear s.year) (listed l.list)
+    × AllByRecursion (InYear s.year) (listed l.list)
     × ((k : ℕ) → k < l.day → day_refusal s (t l.initial.meter) k ≡ None)

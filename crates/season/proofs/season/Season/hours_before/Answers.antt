@@ -1,5 +1,5 @@
 use Rattle.std.proofs.Common.{◌≡◌, sym, ap, ◌∙◌, subst, arith, rules}
-use Rattle.std.specs.List.{AllByRecursion as All}
+use Rattle.std.specs.List.{AllByRecursion}
 use Rattle.tariff.specs.Events.{day_hours, day_in, event_hours_before, hours_before}
 use Rattle.tariff.proofs.EventHours.{event_hours_none, hours_none, hours_more, standing_none, standing_more}
 use Rattle.season.specs.Hours.{Placed, hours_listed}
@@ -51,5 +51,5 @@ returns c =
       counted = counted_is s.events.days c.loop-day.day n c.loop-day.hours.count end inv.2;
       rest = inv.4;
       within = omega (arith, ap (hours_before s.events.days) end, hours_most s.events.days n c.requires s.full);
-      placed = subst (All (Placed (view s))) (sym is) (all_placed (view s) n (sound_of s) c.requires);
+      placed = subst (AllByRecursion (Placed (view s))) (sym is) (all_placed (view s) n (sound_of s) c.requires);
     }
