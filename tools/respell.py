@@ -7,7 +7,8 @@ usage: tools/respell.py     at the top of the repository
 
 Names are those that a specs/ or proofs/ file declares, and they are respelled in its crate and in the crates above it. Names that the
 check makes (of goals, steps and measures) and names of the library stay. It changes .antt files, the lines of must-fail/*.edit, and in
-.rt files what stands outside strings and characters. It prints the names that still fall together. A second run changes nothing."""
+.rt files what stands outside strings and characters; comments stay as they are. It prints the names that still fall together. A
+second run changes nothing."""
 import collections
 import glob
 import re
@@ -125,9 +126,13 @@ class Names:
         return pattern.sub(one, text)
 
 
-def outside_strings(text, turn):
-    parts = re.split(r"""("(?:[^"\\]|\\.)*"|b?'(?:[^'\\\n]|\\[^\n]{1,8})')""", text)
-    return "".join(p if i % 2 else turn(p) for i, p in enumerate(parts))
+CODE_STAYS = r"""("(?:[^"\\]|\\.)*"|b?'(?:[^'\\\n]|\\[^\n]{1,8})'|//[^\n]*)"""
+ANTT_STAYS = r"((?m:^\s*--[^\n]*))"
+
+
+def outside(stays, text, turn):
+    """The text with what stands outside comments (and strings and characters of code) turned."""
+    return "".join(p if i % 2 else turn(p) for i, p in enumerate(re.split(stays, text)))
 
 
 def main():
@@ -145,8 +150,8 @@ def main():
     for crate in sorted(names.sees):
         for p in antt(crate) + code(crate) + sorted(glob.glob(f"crates/{crate}/must-fail/*.edit")):
             text = read(p)
-            turn = lambda part: names.turned(crate, part)
-            new = outside_strings(text, turn) if p.endswith(".rt") else turn(text)
+            stays = CODE_STAYS if p.endswith(".rt") else ANTT_STAYS
+            new = outside(stays, text, lambda part: names.turned(crate, part))
             if new != text:
                 changed += 1
                 with open(p, "w", encoding="utf-8") as f:

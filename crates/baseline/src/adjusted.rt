@@ -22,7 +22,7 @@ fn hold(adjustment: i64, base: u64) -> i64
     adjustment.clamp(-most, most)
 }
 
-// The day_of adjustment of an hour with B `base`, held.
+// The day-of adjustment of an hour with B `base`, held.
 fn held_adjustment(p: u32, q: u32, p3: u64, q3: u64, base: u64) -> i64
     requires { (p3 ≤ 300000000) × ((q3 ≤ 300000000) × (base ≤ 300000000)) }
     ensures value { result ≡ held base (day_of_adjustment p q p3 q3) }

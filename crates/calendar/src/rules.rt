@@ -1,6 +1,6 @@
 // The rules of the calendar, as the code that follows them reads them. Each of these functions does nothing when it runs: its
 // contract opens the definition of a rule where the code is checked against it.
-ghost use Rattle.std.specs.Prelude.{cond, not, ◌&&◌, ◌≡◌, ◌+◌, ◌-◌, ◌*◌, ◌/◌, ◌%◌, ltb, eqb};
+ghost use Rattle.std.specs.Prelude.{cond, not, ◌&&◌, ◌≡◌, ◌+◌, ◌-◌, ◌*◌, ◌/◌, ◌%◌, ◌==◌, nat_lt};
 ghost use Rattle.tariff.specs.Calendar as spec;
 ghost use Rattle.tariff.specs.Counting.{count};
 
@@ -9,15 +9,15 @@ pub fn weekday_rule(year: u32, day: u32)
 {}
 
 pub fn workweek_day_rule(year: u32, day: u32)
-    ensures { spec.workweek_day year day ≡ ltb (spec.weekday year day) 5 }
+    ensures { spec.workweek_day year day ≡ nat_lt (spec.weekday year day) 5 }
 {}
 
 pub fn holiday_rule(year: u32)
-    ensures { spec.holiday year ≡ cond (eqb (spec.weekday year 33) 5) 32 (cond (eqb (spec.weekday year 33) 6) 34 33) }
+    ensures { spec.holiday year ≡ cond (spec.weekday year 33 == 5) 32 (cond (spec.weekday year 33 == 6) 34 33) }
 {}
 
 pub fn business_rule(year: u32, day: u32)
-    ensures { spec.business year day ≡ (spec.workweek_day year day && not (eqb day (spec.holiday year))) }
+    ensures { spec.business year day ≡ (spec.workweek_day year day && not (day == spec.holiday year)) }
 {}
 
 pub fn first_monday_rule(year: u32)

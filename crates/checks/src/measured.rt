@@ -1,4 +1,4 @@
-// The day_of adjustment at its ends, and where B is 0: the event of June 15 from 14:00, announced at noon, so that hours 10 and 11 of
+// The day-of adjustment at its ends, and where B is 0: the event of June 15 from 14:00, announced at noon, so that hours 10 and 11 of
 // its day move its baseline.
 use crate::seasons::{announce, enrol, noon, opened, taken};
 use crate::summers::{cut, held, put, summer};

@@ -56,10 +56,10 @@ fn settle_two<M: Meter, N: Meter>(
     second: &mut N,
     statements: &mut Vec<Statement>,
 ) -> Result<Result<u32, StatementRefusal>, AllocError>
-    ensures answer { IfOk result (λ a. a ≡ hours_of_both (compared_on (view season.now) site (M.Meter.table first.old) (N.Meter.table second.old))) }
-    ensures written { OnOk result (statements.new.items ≡ statements.old.items ++ both_written (compared_on (view season.now) site (M.Meter.table first.old) (N.Meter.table second.old))) }
-    ensures keeps_first { M.Meter.table first.new ≡ M.Meter.table first.old }
-    ensures keeps_second { N.Meter.table second.new ≡ N.Meter.table second.old }
+    ensures answer { IfOk result (λ a. a ≡ hours_of_both (compared_on (view season.now) site (M.table first.old) (N.table second.old))) }
+    ensures written { OnOk result (statements.new.items ≡ statements.old.items ++ both_written (compared_on (view season.now) site (M.table first.old) (N.table second.old))) }
+    ensures keeps_first { M.table first.new ≡ M.table first.old }
+    ensures keeps_second { N.table second.new ≡ N.table second.old }
 {
     let mut one = blank_statement();
     let mut two = blank_statement();

@@ -20,13 +20,13 @@ fn settle_both<M: Meter, N: Meter>(
     first: &mut M,
     second: &mut N,
 ) -> Result<TwoStatements, StatementRefusal>
-    ensures answer { result ≡ both_of (outcome (view season.now) site (M.Meter.table first.old)) (outcome (view season.now) site (N.Meter.table second.old)) }
-    ensures keeps_first { M.Meter.table first.new ≡ M.Meter.table first.old }
-    ensures keeps_second { N.Meter.table second.new ≡ N.Meter.table second.old }
-    ensures deeper_cut_never_costs { Deeper (view season.now) (M.Meter.table first.old) (N.Meter.table second.old) → Both NoWorse (outcome (view season.now) site (M.Meter.table first.old)) (outcome (view season.now) site (N.Meter.table second.old)) }
-    ensures events_stand_apart { (day : ℕ) → standing (view season.now) day ≡ true → OnlyDay day (M.Meter.table first.old) (N.Meter.table second.old) → Both (OthersKept day) (outcome (view season.now) site (M.Meter.table first.old)) (outcome (view season.now) site (N.Meter.table second.old)) }
-    ensures no_worse { Deeper (view season.now) (M.Meter.table first.old) (N.Meter.table second.old) → WrittenSo NoWorse result }
-    ensures others_kept { (day : ℕ) → standing (view season.now) day ≡ true → OnlyDay day (M.Meter.table first.old) (N.Meter.table second.old) → WrittenSo (OthersKept day) result }
+    ensures answer { result ≡ both_of (outcome (view season.now) site (M.table first.old)) (outcome (view season.now) site (N.table second.old)) }
+    ensures keeps_first { M.table first.new ≡ M.table first.old }
+    ensures keeps_second { N.table second.new ≡ N.table second.old }
+    ensures deeper_cut_never_costs { Deeper (view season.now) (M.table first.old) (N.table second.old) → Both NoWorse (outcome (view season.now) site (M.table first.old)) (outcome (view season.now) site (N.table second.old)) }
+    ensures events_stand_apart { (day : ℕ) → standing (view season.now) day ≡ true → OnlyDay day (M.table first.old) (N.table second.old) → Both (OthersKept day) (outcome (view season.now) site (M.table first.old)) (outcome (view season.now) site (N.table second.old)) }
+    ensures no_worse { Deeper (view season.now) (M.table first.old) (N.table second.old) → WrittenSo NoWorse result }
+    ensures others_kept { (day : ℕ) → standing (view season.now) day ≡ true → OnlyDay day (M.table first.old) (N.table second.old) → WrittenSo (OthersKept day) result }
 {
     deeper_cut_never_costs();
     events_stand_apart();
@@ -52,15 +52,15 @@ pub fn compare<M: Meter, N: Meter>(
     one: &mut Statement,
     two: &mut Statement,
 ) -> Result<u32, StatementRefusal>
-    ensures answer { result ≡ hours_of_both (both_of (outcome (view season.now) site (M.Meter.table first.old)) (outcome (view season.now) site (N.Meter.table second.old))) }
-    ensures one { one.new ≡ first_after one.old (both_of (outcome (view season.now) site (M.Meter.table first.old)) (outcome (view season.now) site (N.Meter.table second.old))) }
-    ensures two { two.new ≡ second_after two.old (both_of (outcome (view season.now) site (M.Meter.table first.old)) (outcome (view season.now) site (N.Meter.table second.old))) }
-    ensures keeps_first { M.Meter.table first.new ≡ M.Meter.table first.old }
-    ensures keeps_second { N.Meter.table second.new ≡ N.Meter.table second.old }
-    ensures deeper_cut_never_costs { Deeper (view season.now) (M.Meter.table first.old) (N.Meter.table second.old) → Both NoWorse (outcome (view season.now) site (M.Meter.table first.old)) (outcome (view season.now) site (N.Meter.table second.old)) }
-    ensures events_stand_apart { (day : ℕ) → standing (view season.now) day ≡ true → OnlyDay day (M.Meter.table first.old) (N.Meter.table second.old) → Both (OthersKept day) (outcome (view season.now) site (M.Meter.table first.old)) (outcome (view season.now) site (N.Meter.table second.old)) }
-    ensures no_worse { Deeper (view season.now) (M.Meter.table first.old) (N.Meter.table second.old) → OnOk result (NoWorse one.new two.new) }
-    ensures others_kept { (day : ℕ) → standing (view season.now) day ≡ true → OnlyDay day (M.Meter.table first.old) (N.Meter.table second.old) → OnOk result (OthersKept day one.new two.new) }
+    ensures answer { result ≡ hours_of_both (both_of (outcome (view season.now) site (M.table first.old)) (outcome (view season.now) site (N.table second.old))) }
+    ensures one { one.new ≡ first_after one.old (both_of (outcome (view season.now) site (M.table first.old)) (outcome (view season.now) site (N.table second.old))) }
+    ensures two { two.new ≡ second_after two.old (both_of (outcome (view season.now) site (M.table first.old)) (outcome (view season.now) site (N.table second.old))) }
+    ensures keeps_first { M.table first.new ≡ M.table first.old }
+    ensures keeps_second { N.table second.new ≡ N.table second.old }
+    ensures deeper_cut_never_costs { Deeper (view season.now) (M.table first.old) (N.table second.old) → Both NoWorse (outcome (view season.now) site (M.table first.old)) (outcome (view season.now) site (N.table second.old)) }
+    ensures events_stand_apart { (day : ℕ) → standing (view season.now) day ≡ true → OnlyDay day (M.table first.old) (N.table second.old) → Both (OthersKept day) (outcome (view season.now) site (M.table first.old)) (outcome (view season.now) site (N.table second.old)) }
+    ensures no_worse { Deeper (view season.now) (M.table first.old) (N.table second.old) → OnOk result (NoWorse one.new two.new) }
+    ensures others_kept { (day : ℕ) → standing (view season.now) day ≡ true → OnlyDay day (M.table first.old) (N.table second.old) → OnOk result (OthersKept day one.new two.new) }
 {
     let both = settle_both(season, site, first, second)?;
     *one = both.first;

@@ -1,4 +1,4 @@
--- The adjusted baseline is ten times B plus the day_of adjustment, held between −2B and 2B.
+-- The adjusted baseline is ten times B plus the day-of adjustment, held between −2B and 2B.
 use Rattle.std.proofs.Common.{◌≡◌, ℕ, ◌+◌, ◌-◌, ◌*◌, min, pos, ◌+ℤ◌, ◌-ℤ◌, neg_ℤ, ◌≤ℤ◌, arith}
 use Rattle.std.proofs.lemmas.Int.{ints, clamps}
 use Rattle.std.proofs.lemmas.Bool.Decides.{nat_tests}

@@ -1,4 +1,4 @@
--- The day_of adjustment as a whole number with a sign, in thirtieths of a Wh.
+-- The day-of adjustment as a whole number with a sign, in thirtieths of a Wh.
 use Rattle.std.specs.Prelude.{◌≡◌, ℕ, ◌+◌, ◌*◌, ℤ, pos, ◌+ℤ◌, ◌-ℤ◌, neg_ℤ, ◌≤ℤ◌}
 use Rattle.std.specs.Int.{int_max, int_min}
 use Rattle.tariff.specs.Measure.{adjusted_from}
@@ -11,7 +11,7 @@ day_of_adjustment p q p₃ q₃ = pos (15 * (p + q)) -ℤ pos (5 * (p₃ + q₃)
 abbrev pub held : ℕ → ℤ → ℤ
 held b z = int_max (neg_ℤ (pos (2 * b))) (int_min z (pos (2 * b)))
 
--- The adjusted baseline is ten times B plus the day_of adjustment, held. It is twelve times B where the adjustment reaches 2B,
+-- The adjusted baseline is ten times B plus the day-of adjustment, held. It is twelve times B where the adjustment reaches 2B,
 -- eight times B where it reaches −2B, moved by the adjustment itself in between, and 0 where B is 0.
 pub record AdjustmentHeld (p q p₃ q₃ b : ℕ) : Type 0 where
   pub sum : pos (adjusted_from p q p₃ q₃ b) ≡ pos (10 * b) +ℤ held b (day_of_adjustment p q p₃ q₃)

@@ -58,7 +58,7 @@ pub fn three_highest_are_highest()
     ensures { TheThreeHighestAreHighest }
 {}
 
-// The adjusted baseline is ten times B plus the day_of adjustment, held between −2B and 2B, and exact at both ends and at B = 0.
+// The adjusted baseline is ten times B plus the day-of adjustment, held between −2B and 2B, and exact at both ends and at B = 0.
 pub fn adjustment_is_held()
     ensures { TheAdjustmentIsHeld }
 {}
