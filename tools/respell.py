@@ -18,7 +18,7 @@ OWN = {
     "Days-agree": "SeasonDaysAgree",
     "Sites-agree": "SeasonSitesAgree",
     "event-hours": "season_event_hours",
-    "meter-hours": "hours_of_meters",
+    "meter-hours": "hours_of_meter",
 }
 MADE = ("decreases-", "invariant-", "ghost-", "returns-", "loop-")
 DECL = re.compile(r"^(?P<pre>(?:abbrev |unfoldable |pub |record |data )*)(?P<name>[^\s(){}:,;]+)(?P<rest>.*)$")

@@ -13,12 +13,12 @@ use Rattle.settlement.specs.declared.results.ReadMeter.{ReadMeter}
 use Rattle.settlement.specs.declared.results.ReadMeter.TheVariants.{Table as TableMeter, Pair}
 
 -- the hours of a meter's own table that hold a load; a pair has no table of its own
-abbrev pub hours_of_meters : ReadMeter → ℕ
-hours_of_meters (TableMeter kind number cells) = hours_held (table_of kind (vec_items cells) number)
-hours_of_meters (Pair first second) = 0
+abbrev pub hours_of_meter : ReadMeter → ℕ
+hours_of_meter (TableMeter kind number cells) = hours_held (table_of kind (vec_items cells) number)
+hours_of_meter (Pair first second) = 0
 
 abbrev pub meter_hours_in : List ReadMeter → ℕ
-meter_hours_in meters = sum_by hours_of_meters meters
+meter_hours_in meters = sum_by hours_of_meter meters
 
 -- the hour lines of the statements that a task wrote: a compare writes two statements
 abbrev pub hours_out : Outcome → ℕ

@@ -1,7 +1,7 @@
 // The counts that are read aloud, from what the tasks answered.
 ghost use Rattle.std.specs.Prelude.{◌≡◌, ◌*◌, ◌^◌, ◌≤◌, length};
 ghost use Rattle.season.specs.View.{view};
-ghost use Rattle.settlement.specs.Counted.{counts_of, event_hours_out, hours_out, hours_of_meters, meter_hours_in, statements_out, written_by};
+ghost use Rattle.settlement.specs.Counted.{counts_of, event_hours_out, hours_out, hours_of_meter, meter_hours_in, statements_out, written_by};
 
 use crate::choose::table_meter;
 use crate::held::hours_held;
@@ -10,7 +10,7 @@ use season::Season;
 
 // The hours of a meter's own table that hold a load.
 fn hours_in(meter: &ReadMeter) -> u32
-    ensures is { result ≡ hours_of_meters meter.now }
+    ensures is { result ≡ hours_of_meter meter.now }
     ensures within { result ≤ 1824 }
 {
     match meter {
