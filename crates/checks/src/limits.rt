@@ -93,33 +93,18 @@ fn a_season_has_60_hours(rt: HostRuntime) {
 #[test]
 fn no_figure_rises_above_the_highest_after_the_third_announcement(rt: HostRuntime) {
     let mut season = opened(&rt, 2015);
-    taken(&rt, &mut season, enrol(0, 0, 60), Answer::Site(1));
-    taken(&rt, &mut season, nominate(0, 1, 3, 70), Answer::Week(3));
-    taken(
-        &rt,
-        &mut season,
-        announce(noon(14), 14, 2),
-        Answer::Announced(1),
-    );
-    taken(&rt, &mut season, revoke(at(14, 721)), Answer::Revoked(2));
-    taken(
-        &rt,
-        &mut season,
-        announce(noon(15), 14, 2),
-        Answer::Announced(2),
-    );
-    taken(
-        &rt,
-        &mut season,
-        nominate(noon(15), 1, 9, 80),
-        Answer::Week(9),
-    );
-    taken(
-        &rt,
-        &mut season,
-        announce(noon(16), 14, 2),
-        Answer::Announced(3),
-    );
+    let calls = [
+        (enrol(0, 0, 60), Answer::Site(1)),
+        (nominate(0, 1, 3, 70), Answer::Week(3)),
+        (announce(noon(14), 14, 2), Answer::Announced(1)),
+        (revoke(at(14, 721)), Answer::Revoked(2)),
+        (announce(noon(15), 14, 2), Answer::Announced(2)),
+        (nominate(noon(15), 1, 9, 80), Answer::Week(9)),
+        (announce(noon(16), 14, 2), Answer::Announced(3)),
+    ];
+    for (call, answer) in calls {
+        taken(&rt, &mut season, call, answer);
+    }
     refused(
         &rt,
         &mut season,
