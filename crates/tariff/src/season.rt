@@ -48,7 +48,7 @@ pub enum Day {
 }
 
 // One hour of a standing event: the event's number, its day and the hour of the day.
-#[derive(Clone, Copy)]
+#[derive(Clone, Copy, Default)]
 pub struct EventHour {
     pub event: u8,
     pub day: u8,

@@ -7,7 +7,7 @@ use crate::fault::BaselineFault;
 
 // What was measured in one hour of a standing event. B is three times the original baseline in Wh, the adjusted baseline is in
 // thirtieths of a Wh, and the reduction and what it falls short of the nomination are in Wh.
-#[derive(Clone, Copy)]
+#[derive(Clone, Copy, Default)]
 pub struct MeasuredHour {
     pub event: u8,
     pub day: u8,
@@ -19,7 +19,7 @@ pub struct MeasuredHour {
 }
 
 // A line of a statement for one event hour: what was measured, and what it pays and costs in millicents.
-#[derive(Clone, Copy, PartialEq, Eq)]
+#[derive(Clone, Copy, PartialEq, Eq, Default)]
 pub struct HourLine {
     pub event: u8,
     pub day: u8,
@@ -34,7 +34,7 @@ pub struct HourLine {
 
 // A line of a statement for one week: its nomination in kW, its event hours, the sum of their counted reductions in Wh, its
 // programme days, and what it pays in millicents.
-#[derive(Clone, Copy, PartialEq, Eq)]
+#[derive(Clone, Copy, PartialEq, Eq, Default)]
 pub struct WeekLine {
     pub nomination: u32,
     pub hours: u8,
@@ -44,7 +44,7 @@ pub struct WeekLine {
 }
 
 // A site's statement. The totals are in millicents, and what is paid in cents.
-#[derive(Clone, Copy, PartialEq, Eq)]
+#[derive(Clone, Copy, PartialEq, Eq, Default)]
 pub struct Statement {
     pub hours: [HourLine; 60],
     pub weeks: [WeekLine; 10],
