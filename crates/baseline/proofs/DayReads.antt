@@ -1,10 +1,8 @@
 -- A day that is read hour by hour.
 use Rattle.std.proofs.Common.{◌≡◌, ℕ, ◌+◌, ◌<◌, ◌≤◌, ◌≢◌, List, length, get_or, set, Some, None, Ok, Err, Option, Result, sym, ap, ◌∙◌, arith, get_or-set_other, get_or-set_same, below_more}
 use Rattle.std.proofs.lemmas.List.FromFn.{fill_by_all}
-use Rattle.tariff.specs.Tables.{Table, load, load_of}
+use Rattle.tariff.specs.Tables.{Table, load, load_of, Reading}
 use Rattle.tariff.specs.Faults.{day_fault, hour_fault}
-use Rattle.tariff.specs.declared.reading.Reading.{Reading}
-use Rattle.tariff.specs.declared.reading.Reading.TheVariants.{Load, NoLoad}
 use Rattle.tariff.specs.declared.fault.Use.{Use}
 use Rattle.tariff.specs.declared.fault.BaselineFault.{BaselineFault}
 use Rattle.tariff.specs.declared.fault.BaselineFault.TheVariants.{HourWithoutLoad}
@@ -18,25 +16,25 @@ as_fault x = HourWithoutLoad x.gap x.purpose x.day x.hour
 
 -- what was read so far of a day: a load at each hour
 abbrev pub Read : Table → ℕ → ℕ → List ℕ → Type 0
-Read t d n loads = (k : ℕ) → k < n → t d k ≡ Load (get_or loads k 0)
+Read t d n loads = (k : ℕ) → k < n → t d k ≡ Ok (get_or loads k 0)
 
-no_gap : (u : Use) (d h : ℕ) (r : Reading) (w : ℕ) → r ≡ Load w → hour_fault u d h r ≡ None
+no_gap : (u : Use) (d h : ℕ) (r : Reading) (w : ℕ) → r ≡ Ok w → hour_fault u d h r ≡ None
 no_gap u d h r w e = ap (hour_fault u d h) e
 
 a_gap : (u : Use) (d h : ℕ) (r : Reading) (x : HourGap) → hour_read u d h r ≡ Err x → hour_fault u d h r ≡ Some (as_fault x)
-a_gap u d h (Load w) x e = let z : ◌≡◌ {A = ℕ} 0 1 = cc in absurd (omega arith)
-a_gap u d h (NoLoad g) x e = cc
+a_gap u d h (Ok w) x e = let z : ◌≡◌ {A = ℕ} 0 1 = cc in absurd (omega arith)
+a_gap u d h (Err g) x e = cc
 
-pub a_load : (u : Use) (d h : ℕ) (r : Reading) (w : ℕ) → hour_read u d h r ≡ Ok w → r ≡ Load w
-a_load u d h (Load v) w e = cc
-a_load u d h (NoLoad g) w e = let z : ◌≡◌ {A = ℕ} 0 1 = cc in absurd (omega arith)
+pub a_load : (u : Use) (d h : ℕ) (r : Reading) (w : ℕ) → hour_read u d h r ≡ Ok w → r ≡ Ok w
+a_load u d h (Ok v) w e = cc
+a_load u d h (Err g) w e = let z : ◌≡◌ {A = ℕ} 0 1 = cc in absurd (omega arith)
 
 -- what a meter answered holds of a table that it kept
 pub asked_of : (s t : Table) (u : Use) (d h : ℕ) (r : Result ℕ HourGap) → s ≡ t → r ≡ hour_read u d h (s d h) → hour_read u d h (t d h) ≡ r
 asked_of s t u d h r kept e = ap (λ (v : Table). hour_read u d h (v d h)) (sym kept) ∙ sym e
 
 -- one hour more
-pub read_more : (t : Table) (d h : ℕ) (loads : List ℕ) (w : ℕ) → h < length loads → Read t d h loads → t d h ≡ Load w → Read t d (h + 1) (set loads h w)
+pub read_more : (t : Table) (d h : ℕ) (loads : List ℕ) (w : ℕ) → h < length loads → Read t d h loads → t d h ≡ Ok w → Read t d (h + 1) (set loads h w)
 read_more t d h loads w l read e =
     below_more _ _ (λ k m. let ne : k ≢ h = omega arith in rw get_or-set_other (read k m)) (rw get_or-set_same e)
 

@@ -1,10 +1,8 @@
 -- Which days may be compared with, and what it means to read them.
 use Rattle.std.specs.Prelude.{ℕ, ◌<◌, ◌≤◌, Bool, true, cond, ◌&&◌, List, [], ◌∷◌, map, Some, None, Ok, Err, Option, Result, nat_le, slice_index}
 use Rattle.std.specs.List.{range_with_len}
-use Rattle.tariff.specs.Tables.{Table, load}
+use Rattle.tariff.specs.Tables.{Table, load, Reading}
 use Rattle.tariff.specs.Faults.{day_fault, comparison_fault}
-use Rattle.tariff.specs.declared.reading.Reading.{Reading}
-use Rattle.tariff.specs.declared.reading.Reading.TheVariants.{Load, NoLoad}
 use Rattle.tariff.specs.declared.fault.Use.{Use}
 use Rattle.tariff.specs.declared.fault.HourGap.{HourGap}
 use Rattle.tariff.specs.declared.fault.BaselineFault.{BaselineFault}
@@ -20,8 +18,8 @@ days_taken days = cond (within_summer days) (Some days) None
 
 -- an hour's load, or its gap with what the hour is needed for and where it lies
 abbrev pub hour_read : Use → ℕ → ℕ → Reading → Result ℕ HourGap
-hour_read u d h (Load w) = Ok w
-hour_read u d h (NoLoad g) = Err (record { gap = g; purpose = u; day = d; hour = h })
+hour_read u d h (Ok w) = Ok w
+hour_read u d h (Err g) = Err (record { gap = g; purpose = u; day = d; hour = h })
 
 -- the loads of a day, hour by hour
 unfoldable pub day_loads : Table → ℕ → List ℕ

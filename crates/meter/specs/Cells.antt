@@ -1,8 +1,6 @@
 -- What tables of cells and pairs of meters mean.
-use Rattle.std.specs.Prelude.{ℕ, ◌+◌, ◌*◌, cond, ◌&&◌, List, length, Some, None, Option, nat_le, nat_lt, slice_index}
-use Rattle.tariff.specs.Tables.{Table}
-use Rattle.tariff.specs.declared.reading.Reading.{Reading}
-use Rattle.tariff.specs.declared.reading.Reading.TheVariants.{Load, NoLoad}
+use Rattle.std.specs.Prelude.{ℕ, ◌+◌, ◌*◌, cond, ◌&&◌, List, length, Some, None, Option, nat_le, nat_lt, slice_index, Ok, Err}
+use Rattle.tariff.specs.Tables.{Table, Reading}
 use Rattle.tariff.specs.declared.reading.Gap.TheVariants.{Missing, Over}
 
 -- what a cell holds: a cell past the end, or above the limit, holds no load
@@ -11,8 +9,8 @@ held limit cells k = cond (nat_lt k (length cells) && nat_le (slice_index cells 
 
 -- an hour without a load is missing, under the number that the meter was made with
 abbrev pub read_as : ℕ → Option ℕ → Reading
-read_as number (Some w) = Load w
-read_as number None = NoLoad (Missing number)
+read_as number (Some w) = Ok w
+read_as number None = Err (Missing number)
 
 -- a table with a cell to an hour: cell 24 × day + hour
 abbrev pub hourly : List ℕ → ℕ → Table
@@ -38,6 +36,6 @@ quarterly cells number d h = read_as number (four cells (96 * d + 4 * h))
 
 -- two meters on one site: the first gap of the two, or what both drew, which is over where it is more than an hour may hold
 abbrev pub joined : Reading → Reading → Reading
-joined (Load a) (Load b) = cond (nat_le (a + b) 100000000) (Load (a + b)) (NoLoad Over)
-joined (Load a) (NoLoad g) = NoLoad g
-joined (NoLoad g) r = NoLoad g
+joined (Ok a) (Ok b) = cond (nat_le (a + b) 100000000) (Ok (a + b)) (Err Over)
+joined (Ok a) (Err g) = Err g
+joined (Err g) r = Err g

@@ -1,13 +1,11 @@
 -- How many hours of a table hold a load.
-use Rattle.std.specs.Prelude.{ℕ, Bool, true, false}
+use Rattle.std.specs.Prelude.{ℕ, Bool, true, false, Ok, Err}
 use Rattle.tariff.specs.Counting.{count, total}
-use Rattle.tariff.specs.Tables.{Table}
-use Rattle.tariff.specs.declared.reading.Reading.{Reading}
-use Rattle.tariff.specs.declared.reading.Reading.TheVariants.{Load, NoLoad}
+use Rattle.tariff.specs.Tables.{Table, Reading}
 
 abbrev pub holds_load : Reading → Bool
-holds_load (Load w) = true
-holds_load (NoLoad g) = false
+holds_load (Ok w) = true
+holds_load (Err g) = false
 
 -- how many of the first n hours of a day hold a load
 abbrev pub held_on_day : Table → ℕ → ℕ → ℕ

@@ -1,5 +1,5 @@
 -- Measuring: deeper cuts give reductions no lower, at the same baselines.
-use Rattle.std.proofs.Common.{◌≡◌, ℕ, ◌+◌, ◌-◌, ◌<◌, ◌≤◌, true, false, sym, refl, ◌∙◌, le_refl, arith}
+use Rattle.std.proofs.Common.{◌≡◌, ℕ, ◌+◌, ◌-◌, ◌<◌, ◌≤◌, true, false, sym, refl, ◌∙◌, le_refl, arith, Ok, Err}
 use Rattle.std.specs.List.{AllZip}
 use Rattle.std.proofs.lemmas.Bool.Decides.{nat_tests}
 use Rattle.tariff.specs.Baseline.{base_of}
@@ -11,9 +11,7 @@ use Rattle.tariff.specs.Measure.{adjusted_of, reduction_of, notice_hour, measure
 use Rattle.tariff.specs.Readings.{Alike, NoMore, Deeper}
 use Rattle.tariff.specs.Season.{Season, day_at, standing, season_event_hours}
 use Rattle.tariff.specs.Sound.{Sound}
-use Rattle.tariff.specs.Tables.{Table, load, load_of}
-use Rattle.tariff.specs.declared.reading.Reading.{Reading}
-use Rattle.tariff.specs.declared.reading.Reading.TheVariants.{Load, NoLoad}
+use Rattle.tariff.specs.Tables.{Table, load, load_of, Reading}
 use Rattle.tariff.specs.declared.season.Site.{Site}
 use Rattle.tariff.proofs.Baselines.{comparison_free, base_of_same, adjusted_of_same}
 use Rattle.tariff.proofs.EventHours.{all_event_hours, in_event_is}
@@ -21,10 +19,10 @@ use Rattle.tariff.proofs.Pointwise.{each_map}
 use Rattle.tariff.proofs.Runs.{standing_fit}
 
 load_no_more : (v w : Reading) → Alike v w → NoMore v w → load_of w ≤ load_of v
-load_no_more (Load v) (Load w) a h = h
-load_no_more (Load v) (NoLoad g) a h = absurd a
-load_no_more (NoLoad f) (Load w) a h = absurd a
-load_no_more (NoLoad f) (NoLoad g) a h = le_refl _
+load_no_more (Ok v) (Ok w) a h = h
+load_no_more (Ok v) (Err g) a h = absurd a
+load_no_more (Err f) (Ok w) a h = absurd a
+load_no_more (Err f) (Err g) a h = le_refl _
 
 module _ (s : Season) (x : Site) (t u : Table) (deeper : Deeper s t u) (sound : Sound s) where
   free_same : (k h : ℕ) → k < 76 → h < 24 → standing s k ≡ false → t k h ≡ u k h

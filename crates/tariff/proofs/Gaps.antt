@@ -1,5 +1,5 @@
 -- Two tables with the same gaps are refused alike.
-use Rattle.std.proofs.Common.{◌≡◌, ℕ, ◌<◌, Bool, true, false, cond, not, reverse, length, Some, None, Err, Option, refl, ap, arith}
+use Rattle.std.proofs.Common.{◌≡◌, ℕ, ◌<◌, Bool, true, false, cond, not, reverse, length, Some, None, Err, Option, refl, ap, arith, Ok}
 use Rattle.std.specs.List.{range_with_len}
 use Rattle.std.proofs.ByRecursion.{All-weaker}
 use Rattle.tariff.specs.Comparison.{comparison_days}
@@ -9,9 +9,7 @@ use Rattle.tariff.specs.Lines.{Both}
 use Rattle.tariff.specs.Readings.{Alike, SameGaps}
 use Rattle.tariff.specs.Season.{Season, standing, season_event_hours, has_site, site_at}
 use Rattle.tariff.specs.Statement.{event_fault, numbered, day_refusal, season_fault, Outcome, refused_or, outcome, statement_of}
-use Rattle.tariff.specs.Tables.{Table}
-use Rattle.tariff.specs.declared.reading.Reading.{Reading}
-use Rattle.tariff.specs.declared.reading.Reading.TheVariants.{Load, NoLoad}
+use Rattle.tariff.specs.Tables.{Table, Reading}
 use Rattle.tariff.specs.declared.fault.Use.{Use}
 use Rattle.tariff.specs.declared.fault.Use.TheVariants.{Comparison, EventDay}
 use Rattle.tariff.specs.declared.statement.Statement.{Statement}
@@ -21,10 +19,10 @@ use Rattle.tariff.proofs.Ranking.{all_counting}
 use Rattle.tariff.proofs.Baselines.{Free, comparison_free}
 
 hour_alike : (p : Use) (d h : ℕ) (v w : Reading) → Alike v w → hour_fault p d h v ≡ hour_fault p d h w
-hour_alike p d h (Load v) (Load w) a = refl
-hour_alike p d h (Load v) (NoLoad g) a = absurd a
-hour_alike p d h (NoLoad f) (Load w) a = absurd a
-hour_alike p d h (NoLoad f) (NoLoad g) a = ap (λ k. hour_fault p d h (NoLoad k)) a
+hour_alike p d h (Ok v) (Ok w) a = refl
+hour_alike p d h (Ok v) (Err g) a = absurd a
+hour_alike p d h (Err f) (Ok w) a = absurd a
+hour_alike p d h (Err f) (Err g) a = ap (λ k. hour_fault p d h (Err k)) a
 
 module _ (s : Season) (t u : Table) (gaps : SameGaps t u) where
   day_alike : (p : Use) (d : ℕ) → d < 76 → day_fault t p d ≡ day_fault u p d

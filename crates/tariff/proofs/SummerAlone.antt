@@ -1,5 +1,5 @@
 -- Tables that agree on the hours of the summer settle alike.
-use Rattle.std.proofs.Common.{◌≡◌, refl, ap, subst}
+use Rattle.std.proofs.Common.{◌≡◌, refl, ap, subst, Ok, Err}
 use Rattle.tariff.specs.Calls.{run}
 use Rattle.tariff.specs.Events.{event_number}
 use Rattle.tariff.specs.Laws.{OnlyTheSummerCounts}
@@ -9,9 +9,7 @@ use Rattle.tariff.specs.Readings.{Alike, SameGaps}
 use Rattle.tariff.specs.Season.{Season, opened, season_event_hours, site_at}
 use Rattle.tariff.specs.Sound.{Sound, OfSoundSeasons, AfterAnyCalls}
 use Rattle.tariff.specs.Statement.{statement_of}
-use Rattle.tariff.specs.Tables.{Table, Agree}
-use Rattle.tariff.specs.declared.reading.Reading.{Reading}
-use Rattle.tariff.specs.declared.reading.Reading.TheVariants.{Load, NoLoad}
+use Rattle.tariff.specs.Tables.{Table, Agree, Reading}
 use Rattle.tariff.specs.declared.season.Site.{Site}
 use Rattle.tariff.proofs.Measured.{measured_same}
 use Rattle.tariff.proofs.EventHours.{all_event_hours}
@@ -20,8 +18,8 @@ use Rattle.tariff.proofs.Pointwise.{map_same}
 use Rattle.tariff.proofs.Runs.{seasons_are_sound_lem}
 
 alike_itself : (v : Reading) → Alike v v
-alike_itself (Load w) = tt
-alike_itself (NoLoad g) = refl
+alike_itself (Ok w) = tt
+alike_itself (Err g) = refl
 
 same_gaps : (t u : Table) → Agree t u → SameGaps t u
 same_gaps t u same d h l m = subst (λ (r : Reading). Alike (t d h) r) (same d h l m) (alike_itself (t d h))

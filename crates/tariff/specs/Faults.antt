@@ -1,9 +1,7 @@
 -- Which hour without a load stops a baseline: the first, in the order in which hours are needed.
-use Rattle.std.specs.Prelude.{ℕ, List, [], ◌∷◌, reverse, Some, None, Option}
+use Rattle.std.specs.Prelude.{ℕ, List, [], ◌∷◌, reverse, Some, None, Option, Ok, Err}
 use Rattle.std.specs.List.{range_with_len}
-use Rattle.tariff.specs.Tables.{Table}
-use Rattle.tariff.specs.declared.reading.Reading.{Reading}
-use Rattle.tariff.specs.declared.reading.Reading.TheVariants.{Load, NoLoad}
+use Rattle.tariff.specs.Tables.{Table, Reading}
 use Rattle.tariff.specs.declared.fault.Use.{Use}
 use Rattle.tariff.specs.declared.fault.Use.TheVariants.{Comparison, EventDay}
 use Rattle.tariff.specs.declared.fault.BaselineFault.{BaselineFault}
@@ -20,8 +18,8 @@ first_some f (a ∷ rest) = or_else (f a) (first_some f rest)
 
 -- a reading that is no load is a fault, with what the hour is needed for, its day and its hour
 abbrev pub hour_fault : Use → ℕ → ℕ → Reading → Option BaselineFault
-hour_fault u d h (Load w) = None
-hour_fault u d h (NoLoad g) = Some (HourWithoutLoad g u d h)
+hour_fault u d h (Ok w) = None
+hour_fault u d h (Err g) = Some (HourWithoutLoad (record { gap = g; purpose = u; day = d; hour = h }))
 
 -- all 24 hours of a day are needed, rising
 unfoldable pub day_fault : Table → Use → ℕ → Option BaselineFault

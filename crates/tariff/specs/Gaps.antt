@@ -12,4 +12,4 @@ gap_number Over = 26
 
 -- a baseline's fault has the number of its hour's gap
 abbrev pub baseline_fault_number : BaselineFault → ℕ
-baseline_fault_number (HourWithoutLoad gap purpose day hour) = gap_number gap
+baseline_fault_number (HourWithoutLoad x) = gap_number x.gap

@@ -1,22 +1,20 @@
 -- Two tables of readings, compared hour by hour.
-use Rattle.std.specs.Prelude.{◌≡◌, ℕ, ◌≤◌, true, false, ◌≢◌}
+use Rattle.std.specs.Prelude.{◌≡◌, ℕ, ◌≤◌, true, false, ◌≢◌, Ok, Err}
 use Rattle.tariff.specs.Season.{Season, in_event}
-use Rattle.tariff.specs.Tables.{Table, Hourly}
-use Rattle.tariff.specs.declared.reading.Reading.{Reading}
-use Rattle.tariff.specs.declared.reading.Reading.TheVariants.{Load, NoLoad}
+use Rattle.tariff.specs.Tables.{Table, Hourly, Reading}
 
 -- both readings are loads, or both are the same gap
 abbrev pub Alike : Reading → Reading → Type 0
-Alike (Load v) (Load w) = Unit {0}
-Alike (Load v) (NoLoad g) = ⊥
-Alike (NoLoad f) (Load w) = ⊥
-Alike (NoLoad f) (NoLoad g) = f ≡ g
+Alike (Ok v) (Ok w) = Unit {0}
+Alike (Ok v) (Err g) = ⊥
+Alike (Err f) (Ok w) = ⊥
+Alike (Err f) (Err g) = f ≡ g
 
 -- of two loads, the second is no higher
 abbrev pub NoMore : Reading → Reading → Type 0
-NoMore (Load v) (Load w) = w ≤ v
-NoMore (Load v) (NoLoad g) = Unit {0}
-NoMore (NoLoad f) r = Unit {0}
+NoMore (Ok v) (Ok w) = w ≤ v
+NoMore (Ok v) (Err g) = Unit {0}
+NoMore (Err f) r = Unit {0}
 
 -- both tables hold loads in the same hours, and the same gaps in the others
 abbrev pub SameGaps : Table → Table → Type 0

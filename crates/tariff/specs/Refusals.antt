@@ -33,4 +33,4 @@ season_refusal_number RevocationTooLate = 21
 abbrev pub statement_refusal_number : StatementRefusal → ℕ
 statement_refusal_number SeasonNotClosed = 3
 statement_refusal_number NoSuchSiteToSettle = 9
-statement_refusal_number (EventWithoutBaseline e f) = baseline_fault_number f
+statement_refusal_number (EventWithoutBaseline x) = baseline_fault_number x.fault

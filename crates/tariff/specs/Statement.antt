@@ -20,7 +20,7 @@ event_fault s t d = fault_over t (comparison_days s d) d
 
 -- with the event's number
 abbrev pub numbered : ℕ → Option BaselineFault → Option StatementRefusal
-numbered number (Some f) = Some (EventWithoutBaseline number f)
+numbered number (Some f) = Some (EventWithoutBaseline (record { event = number; fault = f }))
 numbered number None = None
 
 -- what a day's event refuses a statement with, where one stands

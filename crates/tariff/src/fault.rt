@@ -36,12 +36,7 @@ pub struct HourGap {
 // What keeps a baseline from being worked out: an hour that is needed and has no load.
 #[derive(Clone, Copy, PartialEq, Eq, Debug)]
 pub enum BaselineFault {
-    HourWithoutLoad {
-        gap: Gap,
-        purpose: Use,
-        day: u8,
-        hour: u8,
-    },
+    HourWithoutLoad(HourGap),
 }
 
 impl BaselineFault {
@@ -50,20 +45,15 @@ impl BaselineFault {
         ensures { result ≡ baseline_fault_number self }
     {
         match self {
-            BaselineFault::HourWithoutLoad { gap, .. } => gap.number(),
+            BaselineFault::HourWithoutLoad(hour) => hour.gap.number(),
         }
     }
 }
 
 impl From<HourGap> for BaselineFault {
-    ghost from_gives = { λ x r. r ≡ HourWithoutLoad x.gap x.purpose x.day x.hour };
+    ghost from_gives = { λ x r. r ≡ HourWithoutLoad x };
 
     fn from(x: HourGap) -> BaselineFault {
-        BaselineFault::HourWithoutLoad {
-            gap: x.gap,
-            purpose: x.purpose,
-            day: x.day,
-            hour: x.hour,
-        }
+        BaselineFault::HourWithoutLoad(x)
     }
 }

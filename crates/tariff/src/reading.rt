@@ -23,8 +23,4 @@ impl Gap {
 }
 
 // One hour of a meter: its load in whole watt-hours, at most 100,000,000, or why there is none.
-#[derive(Clone, Copy, PartialEq, Eq, Debug)]
-pub enum Reading {
-    Load(u32),
-    NoLoad(Gap),
-}
+pub type Reading = Result<u32, Gap>;

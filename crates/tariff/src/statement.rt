@@ -56,7 +56,7 @@ pub struct Statement {
 }
 
 // What keeps the baseline of an event from being worked out, with the event's number.
-#[derive(Clone, Copy)]
+#[derive(Clone, Copy, PartialEq, Eq, Debug)]
 pub struct EventFault {
     pub event: u8,
     pub fault: BaselineFault,
@@ -67,7 +67,7 @@ pub struct EventFault {
 pub enum StatementRefusal {
     SeasonNotClosed,
     NoSuchSite,
-    EventWithoutBaseline { event: u8, fault: BaselineFault },
+    EventWithoutBaseline(EventFault),
 }
 
 impl StatementRefusal {
@@ -78,18 +78,15 @@ impl StatementRefusal {
         match self {
             StatementRefusal::SeasonNotClosed => 3,
             StatementRefusal::NoSuchSite => 9,
-            StatementRefusal::EventWithoutBaseline { event: _, fault } => fault.number(),
+            StatementRefusal::EventWithoutBaseline(event) => event.fault.number(),
         }
     }
 }
 
 impl From<EventFault> for StatementRefusal {
-    ghost from_gives = { λ x r. r ≡ EventWithoutBaseline x.event x.fault };
+    ghost from_gives = { λ x r. r ≡ EventWithoutBaseline x };
 
     fn from(x: EventFault) -> StatementRefusal {
-        StatementRefusal::EventWithoutBaseline {
-            event: x.event,
-            fault: x.fault,
-        }
+        StatementRefusal::EventWithoutBaseline(x)
     }
 }
