@@ -1,5 +1,5 @@
 -- The events of a summer, by its days. An event stands if it was announced and not revoked.
-use Rattle.std.specs.Prelude.{ℕ, zero, suc, ◌+◌, Bool, true, false, ◌&&◌, ◌||◌, List, [], ◌∷◌, ◌++◌, map, length, filter, ◌==◌, slice_index_or}
+use Rattle.std.specs.Prelude.{ℕ, zero, suc, ◌+◌, Bool, true, false, ◌&&◌, ◌||◌, List, [], ◌∷◌, ◌++◌, map, length, filter, ◌==◌, slice_index_or, Some, None, Option}
 use Rattle.std.specs.List.{range_with_len}
 use Rattle.tariff.specs.Calendar.{in_week}
 use Rattle.tariff.specs.Counting.{count}
@@ -13,6 +13,12 @@ abbrev pub stands : Day → Bool
 stands NoEvent = false
 stands (Standing e) = true
 stands (Revoked e) = false
+
+-- the event that stands on the day, where one does
+abbrev pub standing_event : Day → Option Event
+standing_event NoEvent = None
+standing_event (Standing e) = Some e
+standing_event (Revoked e) = None
 
 -- an event was announced for the day, and may have been revoked since
 abbrev pub announced : Day → Bool

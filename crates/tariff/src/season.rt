@@ -1,6 +1,9 @@
 // What a season holds: its sites, and its days with their events.
-ghost use Rattle.std.specs.Prelude.{◌≡◌};
-ghost use Rattle.tariff.specs.Kinds.{kind_number};
+ghost use Rattle.std.specs.Prelude.{◌≡◌, Ok};
+ghost use Rattle.tariff.specs.Events.{standing_event};
+ghost use Rattle.tariff.specs.Kinds.{kind_number, kind_numbered};
+
+use crate::call::SeasonRefusal;
 
 // The kind of a site: one plant, or several that are metered together.
 #[derive(Clone, Copy, PartialEq, Eq, Debug)]
@@ -12,11 +15,26 @@ pub enum Kind {
 impl Kind {
     // The number that callers and reports have for a kind.
     pub fn number(self) -> u32
-        ensures { result ≡ kind_number self }
+        ensures is { result ≡ kind_number self }
+        ensures back { kind_numbered result ≡ Ok self }
     {
         match self {
             Kind::Single => 0,
             Kind::Aggregated => 1,
+        }
+    }
+}
+
+impl TryFrom<u32> for Kind {
+    type Error = SeasonRefusal;
+
+    ghost try_from_gives = { λ number r. r ≡ kind_numbered number };
+
+    fn try_from(number: u32) -> Result<Kind, SeasonRefusal> {
+        match number {
+            0 => Ok(Kind::Single),
+            1 => Ok(Kind::Aggregated),
+            _ => Err(SeasonRefusal::NoSuchKind),
         }
     }
 }
@@ -45,6 +63,18 @@ pub enum Day {
     NoEvent,
     Standing(Event),
     Revoked(Event),
+}
+
+impl Day {
+    // The event that stands on the day, where one does.
+    pub fn standing(self) -> Option<Event>
+        ensures { result ≡ standing_event self }
+    {
+        match self {
+            Day::Standing(event) => Some(event),
+            Day::NoEvent | Day::Revoked(_) => None,
+        }
+    }
 }
 
 // One hour of a standing event: the event's number, its day and the hour of the day.
