@@ -1,1 +1,3 @@
 pub mod Agreeing
+pub mod Forms
+pub mod Together

@@ -1,16 +1,10 @@
 -- What a meter answers of its table.
 use Rattle.std.specs.Prelude.{◌≡◌, ℕ, false, cond, Ok, Err, Result}
 use Rattle.tariff.specs.Tables.{Table, in_summer, outside, Agree, Reading}
-use Rattle.tariff.specs.declared.reading.Gap.{Gap}
 use Rattle.meter.specs.declared.refusal.MeterFault.{MeterFault}
 use Rattle.meter.specs.declared.refusal.MeterFault.TheVariants.{NoSuchHour, NoLoad as HourHasNoLoad}
 
--- the answer to a question for an hour of the summer: its load, or its gap
-abbrev pub load_or_gap : Reading → Result ℕ Gap
-load_or_gap (Ok w) = Ok w
-load_or_gap (Err g) = Err g
-
--- the same with a gap as a fault of the meter
+-- a reading with a gap as a fault of the meter
 abbrev pub load_or_fault : Reading → Result ℕ MeterFault
 load_or_fault (Ok w) = Ok w
 load_or_fault (Err g) = Err (HourHasNoLoad g)

@@ -3,11 +3,10 @@
 
 pub mod cells;
 pub mod hour;
-pub mod hourly;
 pub mod kind;
 pub mod laws;
 pub mod meter;
 pub mod pair;
-pub mod quarter;
 pub mod refusal;
+pub mod table;
 pub mod tables;

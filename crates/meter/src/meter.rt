@@ -1,6 +1,6 @@
 ghost use Rattle.std.specs.Prelude.{◌≡◌, ◌≤◌, IfOk};
 ghost use Rattle.tariff.specs.Tables.{Table};
-ghost use Rattle.meter.specs.Meaning.{«load_or_gap», asked, Spans};
+ghost use Rattle.meter.specs.Meaning.{asked, Spans};
 
 use crate::hour::SummerHour;
 use crate::refusal::MeterFault;
@@ -14,7 +14,7 @@ pub trait Meter {
 
     // What the table holds in an hour of the summer. The question changes no hour of the table.
     fn load(&mut self, at: SummerHour) -> Result<u32, Gap>
-        ensures answers { result ≡ load_or_gap (table self.old at.day at.hour) }
+        ensures answers { result ≡ table self.old at.day at.hour }
         ensures bound { IfOk result (λ w. w ≤ 100000000) }
         ensures keeps { table self.new ≡ table self.old }
         ensures spans { Spans (table self.old) };

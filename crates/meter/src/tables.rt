@@ -1,5 +1,5 @@
 ghost use Rattle.std.specs.Prelude.{◌≡◌, length};
-ghost use Rattle.meter.specs.Recording.{wiped, span, limit, «record_answer», recorded};
+ghost use Rattle.meter.specs.Recording.{wiped, «record_answer», recorded};
 
 use crate::kind::TableKind;
 use crate::refusal::RecordRefusal;
@@ -13,24 +13,6 @@ pub fn wipe(table: &mut [u32]) -> usize
     table.len()
 }
 
-fn span_of(kind: TableKind) -> u32
-    ensures { result ≡ span kind }
-{
-    match kind {
-        TableKind::Hourly => 1824,
-        TableKind::Quarter => 7296,
-    }
-}
-
-fn limit_of(kind: TableKind) -> u32
-    ensures { result ≡ limit kind }
-{
-    match kind {
-        TableKind::Hourly => 100_000_000,
-        TableKind::Quarter => 25_000_000,
-    }
-}
-
 // Writes a load into a cell that holds none, and answers the cell.
 pub fn record(
     table: &mut [u32],
@@ -42,10 +24,10 @@ pub fn record(
     ensures cells { table.new ≡ recorded table.old kind cell load }
 {
     let place = cell as usize;
-    if cell >= span_of(kind) || place >= table.len() {
+    if cell >= kind.span() || place >= table.len() {
         return Err(RecordRefusal::NoSuchCell);
     }
-    let most = limit_of(kind);
+    let most = kind.limit();
     if load > most {
         return Err(RecordRefusal::LoadAboveLimit);
     }

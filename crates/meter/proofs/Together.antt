@@ -1,0 +1,62 @@
+-- The cells of an hour together, one more at a time.
+use Rattle.std.proofs.Common.{◌≡◌, ℕ, zero, suc, ◌+◌, ◌-◌, ◌*◌, ◌/◌, ◌<◌, ◌≤◌, List, length, get_or, slice_range, drop, Some, None, Option, sym, ap, ◌∙◌, subst, refl, arith}
+use native.Mathlib.Numerals.{unary_clauses}
+use Rattle.std.proofs.Math.Nat.{div-le_self}
+use Rattle.std.proofs.lemmas.Nat.{mul-le}
+use Rattle.std.proofs.lemmas.Bool.Decides.{nat_tests}
+use Rattle.std.proofs.lemmas.List.{get_or-take, get_or-drop}
+use Rattle.meter.specs.Cells.{both, held, together}
+
+pub held_past : (limit : ℕ) (cells : List ℕ) (k : ℕ) → length cells ≤ k → held limit cells k ≡ None
+held_past limit cells k l = grind (arith, nat_tests)
+
+pub held_above : (limit : ℕ) (cells : List ℕ) (k : ℕ) → limit < get_or cells k 0 → held limit cells k ≡ None
+held_above limit cells k l = grind (arith, nat_tests)
+
+pub held_load : (limit : ℕ) (cells : List ℕ) (k : ℕ) → k < length cells → get_or cells k 0 ≤ limit → held limit cells k ≡ Some (get_or cells k 0)
+held_load limit cells k l m = grind (arith, nat_tests)
+
+both_none : (o : Option ℕ) → both o None ≡ None
+both_none (Some a) = refl
+both_none None = refl
+
+-- a cell that holds nothing leaves its hour without a load
+pub one_without : (limit : ℕ) (cells : List ℕ) (first k : ℕ) → held limit cells (first + k) ≡ None → together limit cells first (k + 1) ≡ None
+unfolding together
+one_without limit cells first k e = simp unary_clauses (ap (both (together limit cells first k)) e ∙ both_none _)
+
+pub without_one_more : (limit : ℕ) (cells : List ℕ) (first k : ℕ) → together limit cells first k ≡ None → together limit cells first (k + 1) ≡ None
+unfolding together
+without_one_more limit cells first k e = simp unary_clauses (ap (λ o. both o (held limit cells (first + k))) e)
+
+pub without_stays : (limit : ℕ) (cells : List ℕ) (first k m : ℕ) → together limit cells first k ≡ None → together limit cells first (m + k) ≡ None
+without_stays limit cells first k zero e = let same : k ≡ 0 + k = omega arith in subst (λ m. together limit cells first m ≡ None) same e
+without_stays limit cells first k (suc m) e =
+    let same : m + k + 1 ≡ suc m + k = omega arith in
+    subst (λ n. together limit cells first n ≡ None) same (without_one_more limit cells first (m + k) (without_stays limit cells first k m e))
+
+-- an hour with a cell past the end of the table has no load
+pub past_end : (limit : ℕ) (cells : List ℕ) (first n : ℕ) → 1 ≤ n → length cells < first + n → together limit cells first n ≡ None
+past_end limit cells first zero some l = absurd (omega arith)
+past_end limit cells first (suc k) some l =
+    let same : k + 1 ≡ suc k = omega arith in
+    subst (λ m. together limit cells first m ≡ None) same (one_without limit cells first k (held_past limit cells (first + k) (omega arith)))
+
+-- an hour with a cell above the limit has none
+pub above_limit : (limit : ℕ) (cells : List ℕ) (first k n : ℕ) → k < n → limit < get_or cells (first + k) 0 → together limit cells first n ≡ None
+above_limit limit cells first k n l above =
+    let same : n - (k + 1) + (k + 1) ≡ n = omega arith in
+    subst (λ m. together limit cells first m ≡ None) same (without_stays limit cells first (k + 1) (n - (k + 1)) (one_without limit cells first k (held_above limit cells (first + k) above)))
+
+-- one cell more that holds a load
+pub one_more : (limit : ℕ) (cells : List ℕ) (first k a b : ℕ) → Some a ≡ together limit cells first k → held limit cells (first + k) ≡ Some b → Some (a + b) ≡ together limit cells first (k + 1)
+unfolding together
+one_more limit cells first k a b e f = simp unary_clauses (sym (ap (both (together limit cells first k)) f ∙ ap (λ o. both o (Some b)) (sym e)))
+
+-- a cell of those of an hour is a cell of the table
+pub of_hour : (cells : List ℕ) (first n k : ℕ) → k < n → get_or (slice_range cells first (first + n)) k 0 ≡ get_or cells (first + k) 0
+of_hour cells first n k l = get_or-take _ (drop first cells) k 0 (omega arith) ∙ get_or-drop first cells k 0
+
+-- some cells of an hour come to a number of 32 bits
+pub few_fit : (n i sum : ℕ) → i ≤ 4 → sum ≤ i * (100000000 / n) → sum ≤ 400000000
+few_fit n i sum l s = let m = mul-le i (100000000 / n) 4 100000000 l (div-le_self 100000000 n) in omega arith

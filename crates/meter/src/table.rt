@@ -1,0 +1,32 @@
+ghost use Rattle.std.specs.Prelude.{◌≤◌};
+ghost use Rattle.tariff.specs.Tables.{summer};
+ghost use Rattle.meter.specs.Cells.{tabled};
+
+use crate::cells::hour_at;
+use crate::hour::SummerHour;
+use crate::meter::Meter;
+use tariff::reading::Gap;
+
+// A meter over a caller's table with N cells to an hour, and the number under which an hour without a load is missing.
+#[derive(Drop)]
+pub struct TableMeter<'a, const N: usize> {
+    pub cells: &'a [u32],
+    pub number: u32,
+    ghost some: { 1 ≤ N },
+    ghost few: { N ≤ 4 },
+}
+
+// A cell to an hour.
+pub type HourlyMeter<'a> = TableMeter<'a, 1>;
+
+// A cell to a quarter-hour.
+pub type QuarterMeter<'a> = TableMeter<'a, 4>;
+
+impl<const N: usize> Meter for TableMeter<'_, N> {
+    ghost table = { λ m. summer (tabled N m.cells.now m.number) };
+
+    fn load(&mut self, at: SummerHour) -> Result<u32, Gap> {
+        let first = N * (24 * usize::from(at.day) + usize::from(at.hour));
+        hour_at::<N>(self.cells, first).ok_or(Gap::Missing(self.number))
+    }
+}
