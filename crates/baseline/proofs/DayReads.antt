@@ -10,10 +10,6 @@ use Rattle.tariff.specs.declared.fault.HourGap.{HourGap}
 use Rattle.baseline.specs.Days.{day_loads, day_read, fault_or, hour_read}
 use Rattle.baseline.proofs.FirstSome.{none_counted, first_counted}
 
--- the fault that a gap becomes
-abbrev pub as_fault : HourGap → BaselineFault
-as_fault x = HourWithoutLoad x.gap x.purpose x.day x.hour
-
 -- what was read so far of a day: a load at each hour
 abbrev pub Read : Table → ℕ → ℕ → List ℕ → Type 0
 Read t d n loads = (k : ℕ) → k < n → t d k ≡ Ok (get_or loads k 0)
@@ -21,7 +17,7 @@ Read t d n loads = (k : ℕ) → k < n → t d k ≡ Ok (get_or loads k 0)
 no_gap : (u : Use) (d h : ℕ) (r : Reading) (w : ℕ) → r ≡ Ok w → hour_fault u d h r ≡ None
 no_gap u d h r w e = ap (hour_fault u d h) e
 
-a_gap : (u : Use) (d h : ℕ) (r : Reading) (x : HourGap) → hour_read u d h r ≡ Err x → hour_fault u d h r ≡ Some (as_fault x)
+a_gap : (u : Use) (d h : ℕ) (r : Reading) (x : HourGap) → hour_read u d h r ≡ Err x → hour_fault u d h r ≡ Some (HourWithoutLoad x)
 a_gap u d h (Ok w) x e = let z : ◌≡◌ {A = ℕ} 0 1 = cc in absurd (omega arith)
 a_gap u d h (Err g) x e = cc
 
@@ -50,10 +46,10 @@ unfolding day_fault gap_at
 day_fault_none t u d loads read =
     none_counted (gap_at t u d) 24 (λ k l. no_gap u d k (t d k) (get_or loads k 0) (read k l))
 
-pub day_fault_some : (t : Table) (u : Use) (d h : ℕ) (loads : List ℕ) (x : HourGap) → h < 24 → Read t d h loads → hour_read u d h (t d h) ≡ Err x → day_fault t u d ≡ Some (as_fault x)
+pub day_fault_some : (t : Table) (u : Use) (d h : ℕ) (loads : List ℕ) (x : HourGap) → h < 24 → Read t d h loads → hour_read u d h (t d h) ≡ Err x → day_fault t u d ≡ Some (HourWithoutLoad x)
 unfolding day_fault gap_at
 day_fault_some t u d h loads x l read e =
-    first_counted (gap_at t u d) 24 h (as_fault x) l (λ k m. no_gap u d k (t d k) (get_or loads k 0) (read k m)) (a_gap u d h (t d h) x e)
+    first_counted (gap_at t u d) 24 h (HourWithoutLoad x) l (λ k m. no_gap u d k (t d k) (get_or loads k 0) (read k m)) (a_gap u d h (t d h) x e)
 
 pub day_loads_are : (t : Table) (d : ℕ) (loads : List ℕ) → length loads ≡ 24 → Read t d 24 loads → loads ≡ day_loads t d
 unfolding day_loads
@@ -64,6 +60,6 @@ unfolding day_read
 day_read_whole t u d loads long read =
     ap Ok (day_loads_are t d loads long read) ∙ ap (λ o. fault_or o (day_loads t d)) (sym (day_fault_none t u d loads read))
 
-pub day_read_gap : (t : Table) (u : Use) (d h : ℕ) (loads : List ℕ) (x : HourGap) → h < 24 → Read t d h loads → hour_read u d h (t d h) ≡ Err x → Err (as_fault x) ≡ day_read t u d
+pub day_read_gap : (t : Table) (u : Use) (d h : ℕ) (loads : List ℕ) (x : HourGap) → h < 24 → Read t d h loads → hour_read u d h (t d h) ≡ Err x → Err (HourWithoutLoad x) ≡ day_read t u d
 unfolding day_read
 day_read_gap t u d h loads x l read e = ap (λ o. fault_or o (day_loads t d)) (sym (day_fault_some t u d h loads x l read e))

@@ -2,7 +2,7 @@
 // its day move its baseline.
 use crate::seasons::{announce, enrol, noon, opened, taken};
 use crate::summers::{cut, held, put, summer};
-use meter::hourly::HourlyMeter;
+use meter::table::HourlyMeter;
 use statement::request::statement;
 use std::alloc::Global;
 use std::process::Abort;

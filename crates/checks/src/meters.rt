@@ -1,8 +1,8 @@
 // The three meters: loads, gaps and the edges of the summer.
-use meter::hourly::HourlyMeter;
+use meter::table::HourlyMeter;
 use meter::meter::Meter;
 use meter::pair::PairMeter;
-use meter::quarter::QuarterMeter;
+use meter::table::QuarterMeter;
 use meter::refusal::MeterFault;
 use tariff::reading::Gap;
 

@@ -2,7 +2,7 @@
 use crate::limits::sixty_hours;
 use crate::seasons::{announce, enrol, noon, opened, taken};
 use crate::summers::{cut, held, put, summer};
-use meter::hourly::HourlyMeter;
+use meter::table::HourlyMeter;
 use meter::pair::PairMeter;
 use season::Season;
 use statement::compare::compare;
@@ -10,9 +10,9 @@ use statement::request::statement;
 use std::process::Abort;
 use std::test::Fail;
 use tariff::call::{Answer, Call};
-use tariff::fault::{BaselineFault, Use};
+use tariff::fault::{BaselineFault, HourGap, Use};
 use tariff::reading::Gap;
-use tariff::statement::StatementRefusal;
+use tariff::statement::{EventFault, StatementRefusal};
 
 // A closed season of a year without events, with one site at 60 kW.
 fn without_events(rt: &impl Abort, year: u32) -> Season {
@@ -160,13 +160,13 @@ fn the_first_missing_hour_is_told(rt: HostRuntime) -> Result<(), Fail> {
         number: 7,
     };
     let mut record = held();
-    let fault = BaselineFault::HourWithoutLoad {
+    let fault = BaselineFault::HourWithoutLoad(HourGap {
         gap: Gap::Missing(7),
         purpose: Use::Comparison,
         day: 0,
         hour: 23,
-    };
-    let refusal = StatementRefusal::EventWithoutBaseline { event: 1, fault };
+    });
+    let refusal = StatementRefusal::EventWithoutBaseline(EventFault { event: 1, fault });
     assert!(rt; statement(&season, 1, &mut meter, &mut record) == Err(refusal));
     assert!(rt; refusal.number() == 25);
     assert!(rt; record == held());
@@ -189,13 +189,13 @@ fn an_hour_that_is_over_is_told(rt: HostRuntime) -> Result<(), Fail> {
     };
     let mut pair = PairMeter { first, second };
     let mut record = held();
-    let fault = BaselineFault::HourWithoutLoad {
+    let fault = BaselineFault::HourWithoutLoad(HourGap {
         gap: Gap::Over,
         purpose: Use::EventDay,
         day: 14,
         hour: 20,
-    };
-    let refusal = StatementRefusal::EventWithoutBaseline { event: 1, fault };
+    });
+    let refusal = StatementRefusal::EventWithoutBaseline(EventFault { event: 1, fault });
     assert!(rt; statement(&season, 1, &mut pair, &mut record) == Err(refusal));
     assert!(rt; refusal.number() == 26);
     assert!(rt; record == held());

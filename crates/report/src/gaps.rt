@@ -6,9 +6,9 @@ use crate::settled::Settled;
 use batch::plan::BatchMeter;
 use std::alloc::Global;
 use std::fmt::Write;
-use tariff::fault::{BaselineFault, Use};
+use tariff::fault::{BaselineFault, HourGap, Use};
 use tariff::reading::Gap;
-use tariff::statement::StatementRefusal;
+use tariff::statement::{EventFault, StatementRefusal};
 
 // The meters that a request is settled on, by their places; both are one where it names one.
 #[derive(Clone, Copy)]
@@ -66,12 +66,12 @@ fn write_hour(
     event: u8,
     fault: BaselineFault,
 ) -> Result<(), NoRoom> {
-    let BaselineFault::HourWithoutLoad {
+    let BaselineFault::HourWithoutLoad(HourGap {
         purpose,
         day,
         hour,
         ..
-    } = fault;
+    }) = fault;
     let date = date(heap, year, u32::from(day))?;
     let hours = hours_between(heap, u32::from(hour))?;
     match purpose {
@@ -120,7 +120,7 @@ fn write_gap(
     event: u8,
     fault: BaselineFault,
 ) -> Result<(), NoRoom> {
-    let BaselineFault::HourWithoutLoad { gap, .. } = fault;
+    let BaselineFault::HourWithoutLoad(HourGap { gap, .. }) = fault;
     match gap {
         Gap::Missing(_) => writeln!(
             out,
@@ -153,7 +153,7 @@ pub(crate) fn write_refused(
             writeln!(out, "refused, number 9: no site has this number")?;
             Ok(())
         }
-        StatementRefusal::EventWithoutBaseline { event, fault } => {
+        StatementRefusal::EventWithoutBaseline(EventFault { event, fault }) => {
             write_gap(out, heap, settled, year, asked, event, fault)
         }
     }

@@ -7,9 +7,9 @@ use settlement::results::Outcome;
 use std::alloc::{AllocError, Global};
 use std::fmt::Write;
 use tariff::call::{Answer, Call, SeasonRefusal};
-use tariff::fault::BaselineFault;
+use tariff::fault::{BaselineFault, HourGap};
 use tariff::reading::Gap;
-use tariff::statement::{HourLine, Statement, StatementRefusal};
+use tariff::statement::{EventFault, HourLine, Statement, StatementRefusal};
 
 // A text as a field: as it stands, or between quotes with its own quotes doubled where it has a comma or a quote.
 fn field(heap: Global, text: &str) -> Result<String, AllocError> {
@@ -71,12 +71,12 @@ fn write_refused(out: &mut String, refusal: SeasonRefusal) -> Result<(), NoRoom>
 
 // A statement refused for an hour tells its event, its use, its day and its hour, and for a missing one the meter's number.
 fn write_gap(out: &mut String, event: u8, fault: BaselineFault) -> Result<(), NoRoom> {
-    let BaselineFault::HourWithoutLoad {
+    let BaselineFault::HourWithoutLoad(HourGap {
         gap,
         purpose,
         day,
         hour,
-    } = fault;
+    }) = fault;
     let number = gap.number();
     let purpose = purpose.number();
     match gap {
@@ -91,7 +91,7 @@ fn write_gap(out: &mut String, event: u8, fault: BaselineFault) -> Result<(), No
 
 fn write_unstated(out: &mut String, refusal: StatementRefusal) -> Result<(), NoRoom> {
     match refusal {
-        StatementRefusal::EventWithoutBaseline { event, fault } => write_gap(out, event, fault),
+        StatementRefusal::EventWithoutBaseline(EventFault { event, fault }) => write_gap(out, event, fault),
         _ => {
             let number = refusal.number();
             writeln!(out, "refused,{number}")?;

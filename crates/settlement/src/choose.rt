@@ -5,9 +5,9 @@ ghost use Rattle.settlement.specs.Choosing.{ChosenFor, table_at, table_of, toget
 use crate::chosen::ChosenMeter;
 use crate::fault::RunFault;
 use crate::results::ReadMeter;
-use meter::hourly::HourlyMeter;
+use meter::table::HourlyMeter;
 use meter::kind::TableKind;
-use meter::quarter::QuarterMeter;
+use meter::table::QuarterMeter;
 use std::alloc::{AllocError, Global};
 
 // A meter over a table of a kind.

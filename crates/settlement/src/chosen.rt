@@ -1,11 +1,11 @@
 ghost use Rattle.std.specs.Prelude.{◌≡◌, ◌≤◌, IfOk};
-ghost use Rattle.meter.specs.Meaning.{«load_or_gap», Spans};
+ghost use Rattle.meter.specs.Meaning.{Spans};
 ghost use Rattle.settlement.specs.Chosen.{chosen_table};
 
 use meter::hour::SummerHour;
-use meter::hourly::HourlyMeter;
+use meter::table::HourlyMeter;
 use meter::meter::Meter;
-use meter::quarter::QuarterMeter;
+use meter::table::QuarterMeter;
 use tariff::reading::Gap;
 
 // A meter that is chosen while the program runs: one over a table with a cell to an hour, one over a table with a cell to a
@@ -31,7 +31,7 @@ impl Drop for ChosenMeter<'_> {
 
 // What a chosen meter drew in an hour of the summer.
 fn chosen_load(meter: &ChosenMeter<'_>, at: SummerHour) -> Result<u32, Gap>
-    ensures answers { result ≡ load_or_gap (chosen_table meter.now at.day at.hour) }
+    ensures answers { result ≡ chosen_table meter.now at.day at.hour }
     ensures bound { IfOk result (λ w. w ≤ 100000000) }
     ensures spans { Spans (chosen_table meter.now) }
 {

@@ -124,8 +124,8 @@ module _ (s : Season) (x : Site) (t : Table) (d : ℕ) (e : Event) (number : ℕ
       }
 
   -- an event that stops the statement
-  pub standing_fault : (f : EventFault) → Err f ≡ standing_measured s x t number d e → day_refusal s t d ≡ Some (EventWithoutBaseline f.event f.fault)
+  pub standing_fault : (f : EventFault) → Err f ≡ standing_measured s x t number d e → day_refusal s t d ≡ Some (EventWithoutBaseline f)
   unfolding standing_measured
   standing_fault f p =
       let w = numbered_some number (event_fault s t d) _ f p in
-      cond-true (standing s d) _ _ (ap stands held) ∙ ap (numbered (event_number s.days d)) w.0 ∙ ap (λ n. Some (EventWithoutBaseline n f.fault)) (sym en ∙ sym w.1)
+      cond-true (standing s d) _ _ (ap stands held) ∙ ap (numbered (event_number s.days d)) w.0 ∙ ap (λ n. Some (EventWithoutBaseline (record { event = n; fault = f.fault }))) (sym en ∙ sym w.1)

@@ -57,7 +57,7 @@ pub record DayMeasured (s : Season) (x : Site) (t : Table) (d : ℕ) (before aft
 -- a day stops a statement, or leaves that
 abbrev pub DayTold : Season → Site → Table → ℕ → HourList → HourList → Result ℕ EventFault → Type 0
 DayTold s x t d before after (Ok next) = DayMeasured s x t d before after next
-DayTold s x t d before after (Err f) = day_refusal s t d ≡ Some (EventWithoutBaseline f.event f.fault)
+DayTold s x t d before after (Err f) = day_refusal s t d ≡ Some (EventWithoutBaseline f)
 
 -- the measured hours of a season that nothing stops
 pub record SeasonMeasured (s : Season) (x : Site) (t : Table) (list : HourList) : Type 0 where

@@ -3,7 +3,7 @@
 #![tactic(auto)]
 
 use anyhow::anyhow;
-use meter::hourly::HourlyMeter;
+use meter::table::HourlyMeter;
 use season::Season;
 use statement::request::statement;
 use std::env;

@@ -50,10 +50,10 @@ returns-in_err-number g c =
     let d = c.loop-day.day in
     let f = c.in_err-number.field-0.0 in
     let p = err_from_is_err_and c.from_residual.result c.from_residual.ensures.1 in
-    let is : c.from_residual.result ≡ Err (EventWithoutBaseline f.event f.fault) = p.1 ∙ ap Err p.2 in
-    let here = subst (λ (u : Table). day_refusal s u d ≡ Some (EventWithoutBaseline f.event f.fault)) inv.0 c.in_err-number.ensures.told in
+    let is : c.from_residual.result ≡ Err (EventWithoutBaseline f) = p.1 ∙ ap Err p.2 in
+    let here = subst (λ (u : Table). day_refusal s u d ≡ Some (EventWithoutBaseline f)) inv.0 c.in_err-number.ensures.told in
     record {
-      told = subst (SeasonTold s x t) (sym is) (first_fault s t d (EventWithoutBaseline f.event f.fault) (omega arith) inv.6 here);
+      told = subst (SeasonTold s x t) (sym is) (first_fault s t d (EventWithoutBaseline f) (omega arith) inv.6 here);
       keeps = c.measure_day.ensures.keeps ∙ inv.0;
     }
 
