@@ -1,5 +1,6 @@
 -- The days and the clock of a season agree with its history.
 use Rattle.std.proofs.Common.{◌≡◌, ℕ, ◌+◌, ◌<◌, ◌≤◌, Bool, true, false, cond, ◌&&◌, ◌||◌, eqb, List, [], ◌∷◌, ◌++◌, length, set, replicate, fold, sym, refl, ap, ◌∙◌, inl, inr, arith, length-set, get_or-set_other, get_or-set_same}
+use mathlib.Core.Bool.{or-true}
 use lib.ListN.{length-replicate}
 use Rattle.std.proofs.lemmas.List.Sums.{sum_by_push, fold_push}
 use Rattle.std.proofs.lemmas.Bool.{cases_eq, eq-eqb, ne_eqb}
@@ -34,13 +35,9 @@ announced_with d already e = (accepted e.reply && announces d e.call) || already
 unfoldable pub announced_in : ℕ → History → Bool
 announced_in d h = fold (announced_with d) false h
 
-or_true : (b : Bool) → (b || true) ≡ true
-or_true true = refl
-or_true false = refl
-
 stays_announced : (d : ℕ) (h : History) → fold (announced_with d) true h ≡ true
 stays_announced d [] = refl
-stays_announced d (e ∷ h) = rw (or_true (accepted e.reply && announces d e.call)) (stays_announced d h)
+stays_announced d (e ∷ h) = rw (or-true (accepted e.reply && announces d e.call)) (stays_announced d h)
 
 -- a day that an accepted announcement of the history was for
 pub announced_since : (m start len : ℕ) (a : Answer) (before between : History) → announced_in (day_of m) (before ++ taken (Announce m start len) a ∷ between) ≡ true

@@ -8,10 +8,7 @@ use Rattle.tariff.specs.Events.{stands, event_of, day_in, event_number, event_ho
 use Rattle.tariff.specs.declared.season.EventHour.{EventHour}
 use Rattle.tariff.specs.declared.season.Day.{Day}
 use Rattle.tariff.specs.declared.season.Day.TheVariants.{NoEvent, Standing, Revoked}
-
-all_counting : (P : ℕ → Type 0) (a n : ℕ) → ((k : ℕ) → a ≤ k → k < a + n → P k) → AllByRecursion P (range_with_len a n)
-all_counting P a zero h = tt
-all_counting P a (suc n) h = (h a (omega arith) (omega arith), all_counting P (a + 1) n (λ k l m. h k (omega arith) (omega arith)))
+use Rattle.tariff.proofs.Ranking.{all_counting}
 
 -- ---- the hours of one day
 
