@@ -2,4 +2,5 @@ pub mod Plans
 pub mod Batches
 pub mod Named
 pub mod Readings
+pub mod Walking
 pub mod WrittenReadings

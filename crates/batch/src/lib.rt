@@ -2,6 +2,7 @@
 #![tactic(auto)]
 
 pub mod faults;
+mod lines;
 pub mod plan;
 pub mod read;
 pub mod readings;

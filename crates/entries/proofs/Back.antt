@@ -1,5 +1,5 @@
 -- Written entries read back. Assumes nothing.
-use Rattle.std.proofs.Common.{◌≡◌, ℕ, ◌<◌, Bool, true, false, not, ◌&&◌, List, [], ◌∷◌, length, Some, Ok, codes, decimal, sym, refl, ap, ◌∙◌, arith, lit<}
+use Rattle.std.proofs.Common.{◌≡◌, ℕ, ◌<◌, Bool, true, false, not, ◌&&◌, List, [], ◌∷◌, length, Some, Ok, Result, codes, decimal, sym, refl, ap, ◌∙◌, arith, lit<}
 use Rattle.std.proofs.lemmas.Bool.{and_parts}
 use Rattle.std.specs.List.{AllByRecursion}
 use Rattle.std.specs.Option.{ok_or}
@@ -9,6 +9,7 @@ use Rattle.tariff.specs.declared.call.Call.{Call}
 use Rattle.tariff.specs.declared.call.Call.TheVariants.{Enrol, Nominate, Announce, Revoke, Close}
 use Rattle.text.specs.Pieces.{line_end, hash, blank, unblanked, next_word}
 use Rattle.text.proofs.Written.{free_append, upto_free, spares_line_end, spares_hash, spares_blank, free_numeral, numeral_some, number_back, next_word_at, next_word_last}
+use Rattle.entries.specs.declared.entry.EntryFault.{EntryFault}
 use Rattle.entries.specs.declared.entry.EntryFault.TheVariants.{TooFewWords}
 use Rattle.entries.specs.declared.word.Figure.{Figure}
 use Rattle.entries.specs.declared.word.Figure.TheVariants.{Number, Moment, Kind}
@@ -17,10 +18,13 @@ use Rattle.entries.specs.declared.word.Keyword.TheVariants as first
 use Rattle.entries.specs.declared.word.MeterForm.TheVariants.{Table, Pair}
 use Rattle.entries.specs.Asked.{Asked, asks_label, asks_open, asks_call, asks_table, asks_pair, asks_statement, asks_compare}
 use Rattle.entries.specs.Reading.{label_saying, label_after, open_after, enrol_after, nominate_after, announce_after, revoke_after, close_after, table_after, pair_after, meter_after, statement_after, compare_after, entry_after, entry_from, entry_of_line}
-use Rattle.entries.specs.Taking.{take_word, take_figure, no_more, last_word, last_figure}
+use Rattle.entries.specs.Taking.{then, take_word, take_figure, no_more, last_word, last_figure}
 use Rattle.entries.specs.Words.{figure_from, figure_of, keyword_of, meter_form_of}
 use Rattle.entries.specs.Written.{spaced, call_words, kind_word, entry_words, entry_text, Without, Number32, ProperWord, ProperText, ProperCall, Proper, WrittenEntriesReadBack, WrittenEntriesAreOneLine}
-use Rattle.entries.proofs.Steps.{went}
+
+-- a step that read something, and what is made of it
+went : {X Y : Type 0} {r : Result X EntryFault} {x : X} {y : Result Y EntryFault} (go : X → Result Y EntryFault) → Ok x ≡ r → y ≡ go x → y ≡ then r go
+went go e h = h ∙ ap (λ s. then s go) e
 
 -- no byte of a word of the language passes the test, as a test of its own
 abbrev none : (ℕ → Bool) → List ℕ → Bool

@@ -12,7 +12,7 @@ ghost use Rattle.std.specs.Option.{option_map};
 use crate::entry::{Entry, EntryFault};
 use crate::laws::written_entries_read_back;
 use crate::take::{end_line, last_figure, last_word, take_figure, take_word};
-use crate::word::{Figure, Keyword, MeterForm, read_keyword, read_meter_form};
+use crate::word::{Figure, Keyword, MeterForm};
 use meter::kind::TableKind;
 use tariff::call::Call;
 use text::cut::cut;
@@ -20,6 +20,7 @@ use text::parts::Mark;
 use text::word::{next_word, trim};
 
 // `label TEXT`
+#[tactic(auto, unfolding(crate::specs::Reading::label_after))]
 fn read_label(line: &str) -> Result<Entry<'_>, EntryFault>
     ensures { read_as asked result ≡ label_after line.now }
 {
@@ -31,6 +32,7 @@ fn read_label(line: &str) -> Result<Entry<'_>, EntryFault>
 }
 
 // `open YEAR`
+#[tactic(auto, unfolding(crate::specs::Reading::open_after))]
 fn read_open(line: &str) -> Result<Entry<'_>, EntryFault>
     ensures { read_as asked result ≡ open_after line.now }
 {
@@ -39,6 +41,7 @@ fn read_open(line: &str) -> Result<Entry<'_>, EntryFault>
 }
 
 // `enrol MOMENT KIND KW`
+#[tactic(auto, unfolding(crate::specs::Reading::enrol_after))]
 fn read_enrol(line: &str) -> Result<Entry<'_>, EntryFault>
     ensures { read_as asked result ≡ enrol_after line.now }
 {
@@ -51,6 +54,7 @@ fn read_enrol(line: &str) -> Result<Entry<'_>, EntryFault>
 }
 
 // `nominate MOMENT SITE WEEK KW`
+#[tactic(auto, unfolding(crate::specs::Reading::nominate_after))]
 fn read_nominate(line: &str) -> Result<Entry<'_>, EntryFault>
     ensures { read_as asked result ≡ nominate_after line.now }
 {
@@ -69,6 +73,7 @@ fn read_nominate(line: &str) -> Result<Entry<'_>, EntryFault>
 }
 
 // `announce MOMENT START LENGTH`
+#[tactic(auto, unfolding(crate::specs::Reading::announce_after))]
 fn read_announce(line: &str) -> Result<Entry<'_>, EntryFault>
     ensures { read_as asked result ≡ announce_after line.now }
 {
@@ -85,6 +90,7 @@ fn read_announce(line: &str) -> Result<Entry<'_>, EntryFault>
 }
 
 // `revoke MOMENT`
+#[tactic(auto, unfolding(crate::specs::Reading::revoke_after))]
 fn read_revoke(line: &str) -> Result<Entry<'_>, EntryFault>
     ensures { read_as asked result ≡ revoke_after line.now }
 {
@@ -95,6 +101,7 @@ fn read_revoke(line: &str) -> Result<Entry<'_>, EntryFault>
 }
 
 // `close`
+#[tactic(auto, unfolding(crate::specs::Reading::close_after))]
 fn read_close(line: &str) -> Result<Entry<'_>, EntryFault>
     ensures { read_as asked result ≡ close_after line.now }
 {
@@ -103,6 +110,7 @@ fn read_close(line: &str) -> Result<Entry<'_>, EntryFault>
 }
 
 // `hourly NUMBER FILE` or `quarter NUMBER FILE`, after a meter's name
+#[tactic(auto, unfolding(crate::specs::Reading::table_after))]
 fn read_table<'a>(name: &'a str, kind: TableKind, line: &'a str) -> Result<Entry<'a>, EntryFault>
     ensures { read_as asked result ≡ table_after name.now kind line.now }
 {
@@ -117,6 +125,7 @@ fn read_table<'a>(name: &'a str, kind: TableKind, line: &'a str) -> Result<Entry
 }
 
 // `pair NAME NAME`, after a meter's name
+#[tactic(auto, unfolding(crate::specs::Reading::pair_after))]
 fn read_pair<'a>(name: &'a str, line: &'a str) -> Result<Entry<'a>, EntryFault>
     ensures { read_as asked result ≡ pair_after name.now line.now }
 {
@@ -130,19 +139,20 @@ fn read_pair<'a>(name: &'a str, line: &'a str) -> Result<Entry<'a>, EntryFault>
 }
 
 // `meter NAME hourly NUMBER FILE`, `meter NAME quarter NUMBER FILE` or `meter NAME pair NAME NAME`
+#[tactic(auto, unfolding(crate::specs::Reading::meter_after))]
 fn read_meter(line: &str) -> Result<Entry<'_>, EntryFault>
     ensures { read_as asked result ≡ meter_after line.now }
 {
     let (name, rest) = take_word(line)?;
     let (word, rest) = take_word(rest)?;
-    let form = read_meter_form(word)?;
-    match form {
+    match MeterForm::try_from(word)? {
         MeterForm::Table { kind } => read_table(name, kind, rest),
         MeterForm::Pair => read_pair(name, rest),
     }
 }
 
 // `statement SITE NAME`
+#[tactic(auto, unfolding(crate::specs::Reading::statement_after))]
 fn read_statement(line: &str) -> Result<Entry<'_>, EntryFault>
     ensures { read_as asked result ≡ statement_after line.now }
 {
@@ -152,6 +162,7 @@ fn read_statement(line: &str) -> Result<Entry<'_>, EntryFault>
 }
 
 // `compare SITE NAME NAME`
+#[tactic(auto, unfolding(crate::specs::Reading::compare_after))]
 fn read_compare(line: &str) -> Result<Entry<'_>, EntryFault>
     ensures { read_as asked result ≡ compare_after line.now }
 {
@@ -183,25 +194,17 @@ fn read_after(keyword: Keyword, line: &str) -> Result<Entry<'_>, EntryFault>
     }
 }
 
-// Reads the words of a line before its comment: `None` where it has none.
-fn read_words(line: &str) -> Result<Option<Entry<'_>>, EntryFault>
-    ensures { read_as (option_map asked) result ≡ entry_of_line line.now }
-{
-    match next_word(cut(line, Mark::Comment).piece) {
-        None => Ok(None),
-        Some(first) => {
-            let keyword = read_keyword(first.piece)?;
-            let entry = read_after(keyword, first.rest)?;
-            Ok(Some(entry))
-        }
-    }
-}
-
 // Reads a line as an entry: `None` where it has no word before its comment.
+#[tactic(auto, unfolding(crate::specs::Reading::entry_of_line))]
 pub fn read_entry(line: &str) -> Result<Option<Entry<'_>>, EntryFault>
     ensures value { read_as (option_map asked) result ≡ entry_of_line line.now }
     ensures back { WrittenEntriesReadBack }
 {
     written_entries_read_back();
-    read_words(line)
+    let Some(first) = next_word(cut(line, Mark::Comment).piece) else {
+        return Ok(None);
+    };
+    let keyword = Keyword::try_from(first.piece)?;
+    let entry = read_after(keyword, first.rest)?;
+    Ok(Some(entry))
 }

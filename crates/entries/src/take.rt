@@ -7,35 +7,36 @@ use crate::word::{Figure, read_figure};
 use text::word::next_word;
 
 // The next word, and the rest of the line.
+#[tactic(auto, unfolding(crate::specs::Taking::take_word))]
 pub(crate) fn take_word(line: &str) -> Result<(&str, &str), EntryFault>
     ensures { read_as taken_word result ≡ take_word line.now }
 {
-    match next_word(line) {
-        Some(parts) => Ok((parts.piece, parts.rest)),
-        None => Err(EntryFault::TooFewWords),
-    }
+    let word = next_word(line).ok_or(EntryFault::TooFewWords)?;
+    Ok((word.piece, word.rest))
 }
 
 // The next word as a figure, and the rest of the line.
+#[tactic(auto, unfolding(crate::specs::Taking::take_figure))]
 pub(crate) fn take_figure(figure: Figure, line: &str) -> Result<(u32, &str), EntryFault>
     ensures { read_as taken_figure result ≡ take_figure figure line.now }
 {
     let (word, rest) = take_word(line)?;
-    let value = read_figure(figure, word)?;
-    Ok((value, rest))
+    Ok((read_figure(figure, word)?, rest))
 }
 
 // No word is left.
+#[tactic(auto, unfolding(crate::specs::Taking::no_more))]
 pub(crate) fn end_line(line: &str) -> Result<(), EntryFault>
     ensures { result ≡ no_more line.now }
 {
-    match next_word(line) {
-        Some(_) => Err(EntryFault::TooManyWords),
-        None => Ok(()),
+    if next_word(line).is_some() {
+        return Err(EntryFault::TooManyWords);
     }
+    Ok(())
 }
 
 // The one word that is left.
+#[tactic(auto, unfolding(crate::specs::Taking::last_word))]
 pub(crate) fn last_word(line: &str) -> Result<&str, EntryFault>
     ensures { read_as (λ x. x.now) result ≡ last_word line.now }
 {
@@ -45,6 +46,7 @@ pub(crate) fn last_word(line: &str) -> Result<&str, EntryFault>
 }
 
 // The one word that is left, as a figure.
+#[tactic(auto, unfolding(crate::specs::Taking::last_figure))]
 pub(crate) fn last_figure(figure: Figure, line: &str) -> Result<u32, EntryFault>
     ensures { result ≡ last_figure figure line.now }
 {

@@ -9,7 +9,7 @@ use std::alloc::{AllocError, Global};
 use std::fmt;
 use tariff::call::Call;
 
-// The word for a kind of tables.
+// The word for a kind of tables. `TableKind` belongs to another crate, so its `Display` would have to stand there, for one entry's word.
 fn word_for_kind(kind: TableKind) -> &'static str
     ensures { result.now ≡ kind_word kind }
 {
@@ -19,7 +19,7 @@ fn word_for_kind(kind: TableKind) -> &'static str
     }
 }
 
-// A call, as its entry writes it.
+// A call, as its entry writes it: `Call` belongs to another crate, and this gives it a `Display`.
 #[derive(Clone, Copy)]
 struct CallLine {
     call: Call,
@@ -55,19 +55,13 @@ impl fmt::Display for Entry<'_> {
         match *self {
             Entry::Label { text } => write!(f, "label {text}"),
             Entry::Open { year } => write!(f, "open {year}"),
-            Entry::Call { call } => {
-                let line = CallLine { call };
-                write!(f, "{line}")
-            }
+            Entry::Call { call } => write!(f, "{}", CallLine { call }),
             Entry::TableMeter {
                 name,
                 kind,
                 number,
                 file,
-            } => {
-                let word = word_for_kind(kind);
-                write!(f, "meter {name} {word} {number} {file}")
-            }
+            } => write!(f, "meter {name} {} {number} {file}", word_for_kind(kind)),
             Entry::PairMeter {
                 name,
                 first,
