@@ -7,7 +7,7 @@ fn for_days(amount: u64, days: u8) -> u64
     ensures value { result ≡ amount * days }
     ensures bound { result ≤ 71189082914625000 }
 {
-    amount * days as u64
+    amount * u64::from(days)
 }
 
 // What a week without an event hour pays: by its nomination.
@@ -15,7 +15,7 @@ fn capacity_ready(nominated: u32, days: u8) -> u64
     ensures value { result ≡ 65000 * nominated * days }
     ensures bound { result ≤ 71189082914625000 }
 {
-    for_days(65000 * nominated as u64, days)
+    for_days(65000 * u64::from(nominated), days)
 }
 
 // What a week with event hours pays: by the mean of its counted reductions.
@@ -25,7 +25,7 @@ fn capacity_shown(hours: u8, sum: u64, days: u8) -> u64
     ensures value { result ≡ 325 * sum * days / (5 * hours) }
     ensures bound { result ≤ 71189082914625000 }
 {
-    for_days(325 * sum, days) / (5 * hours as u64)
+    for_days(325 * sum, days) / (5 * u64::from(hours))
 }
 
 // What a week pays for capacity, in millicents.

@@ -9,3 +9,9 @@ pub struct HourList {
     pub(crate) count: u8,
     ghost within: { count ≤ 60 },
 }
+
+// What keeps an hour from being added: the list has its 60 hours already.
+#[derive(Clone, Copy, PartialEq, Eq, Debug)]
+pub enum PushRefusal {
+    ListFull,
+}
