@@ -1,5 +1,6 @@
 -- Arrays of lines that are made place by place.
 use Rattle.std.proofs.Common.{◌≡◌, ℕ, zero, suc, ◌+◌, ◌-◌, ◌<◌, ◌≤◌, List, [], ◌∷◌, ◌++◌, map, length, get_or, replicate, subst, sym, refl, ap, ap₂, ◌∙◌, inl, inr, arith}
+use lib.ListN.{length-map}
 use denote.Param.Members.{Mut, Called}
 use Rattle.std.specs.Array.{IsFromFnResultFrom}
 use Rattle.std.specs.List.{range_with_len, slice_get}
@@ -11,7 +12,7 @@ use Rattle.tariff.specs.Pay.{filled, priced, no_hour, no_week}
 use Rattle.tariff.specs.declared.statement.HourLine.{HourLine}
 use Rattle.tariff.specs.declared.statement.WeekLine.{WeekLine}
 use Rattle.pay.specs.declared.placed.PlacedHour.{PlacedHour}
-use Rattle.pay.specs.Paying.{hour_lines_of, week_line_in, week_lines_of}
+use Rattle.pay.specs.Paying.{measured_list, hour_lines_of, week_line_in, week_lines_of}
 
 -- what a closure that stays as it is answers at each place of an array made by its calls
 pub calls_at : {F B : Type 0} (g : Mut F (ℕ × Unit {0}) B) (f : F) (R : ℕ → B → Type 0) (keeps : (k : ℕ) (y : B) (q : F) → Called g f (k, tt) y q → (q ≡ f) × R k y) (n i : ℕ) (p : F) (ys : List B) → p ≡ f → IsFromFnResultFrom g p ys i n → (k : ℕ) (d : B) → i ≤ k → k < i + n → R k (get_or ys k d)
@@ -43,8 +44,7 @@ line_of p = priced p.measured
 
 lines_are : (hours : List PlacedHour) → length (hour_lines_of hours) ≡ length hours
 unfolding hour_lines_of
-lines_are [] = refl
-lines_are (p ∷ hours) = ap suc (lines_are hours)
+lines_are hours = length-map (measured_list hours) priced ∙ length-map hours (λ p. p.measured)
 
 line_at : (hours : List PlacedHour) (k : ℕ) → get_or (hour_lines_of hours) k no_hour ≡ option_map_or line_of (slice_get hours k) no_hour
 unfolding hour_lines_of

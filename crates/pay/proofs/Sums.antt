@@ -1,7 +1,8 @@
 -- Sums over measured hours and weeks, as chains come to them and as the tariff has them.
-use Rattle.std.proofs.Common.{◌≡◌, ℕ, zero, suc, ◌+◌, ◌-◌, ◌*◌, ◌≤◌, cond, List, [], ◌∷◌, map, length, get_or, replicate, sum_by, filter, nat_eq, sym, refl, ap, ◌∙◌, ap₂, arith}
+use Rattle.std.proofs.Common.{◌≡◌, ℕ, ◌+◌, ◌-◌, ◌*◌, ◌≤◌, List, [], ◌∷◌, map, length, get_or, replicate, sum_by, filter, nat_eq, sym, refl, ap, ◌∙◌, ap₂, arith}
 use lib.ListN.{length-map}
 use Rattle.std.proofs.lemmas.List.Sums.{sum_by-cons, sum_by-append, sum_by-le, length-filter, count_by-le-length}
+use Rattle.std.proofs.lemmas.List.Folds.{sum_by-replicate}
 use Rattle.tariff.specs.Pay.{energy_for, adjustment_for, capacity_for, counted_reduction, counted_sum, charged_of, incentive_of, priced, filled, no_hour, no_week}
 use Rattle.tariff.specs.declared.statement.HourLine.{HourLine}
 use Rattle.tariff.specs.declared.statement.MeasuredHour.{MeasuredHour}
@@ -68,13 +69,12 @@ week_line_is nominations days hours k n d count counted capacity a b e g h =
     let at : (k + 1) - 1 ≡ k = omega arith in
     cc (at, h, a, b, e ∙ hours_are (k + 1) hours, g ∙ counted_is n (k + 1) hours)
 
-sum_none : {X : Type 0} (f : X → ℕ) (z : X) (n : ℕ) → f z ≡ 0 → sum_by f (replicate n z) ≡ 0
-sum_none f z zero e = refl
-sum_none f z (suc n) e = sum_by-cons f z (replicate n z) ∙ omega (arith, e, sum_none f z n e)
-
 -- entries that are not used add nothing
 pub sum_filled : {X : Type 0} (f : X → ℕ) (z : X) (n : ℕ) (xs : List X) → f z ≡ 0 → sum_by f (filled z n xs) ≡ sum_by f xs
-sum_filled f z n xs e = sum_by-append f xs (replicate (n - length xs) z) ∙ omega (arith, sum_none f z (n - length xs) e)
+sum_filled f z n xs e =
+    let m : ℕ = n - length xs in
+    let none : sum_by f (replicate m z) ≡ m * 0 = sum_by-replicate f m z ∙ ap (λ k. m * k) e in
+    sum_by-append f xs (replicate m z) ∙ omega (arith, none)
 
 -- lines and totals together are the statement
 pub totalled_is : (hours : List PlacedHour) (nominations days : List ℕ) (last : ℕ) (ls : List HourLine) (ws : List WeekLine) (paid energy charged : ℕ) → ls ≡ filled no_hour 60 (hour_lines_of hours) → ws ≡ filled no_week 10 (week_lines_of nominations days last hours) → paid ≡ sum_by (λ w. w.capacity) ws → energy ≡ sum_by (λ l. l.energy) (hour_lines_of hours) → charged ≡ charged_of (hour_lines_of hours) → totalled ls ws (paid + energy) charged ≡ statement_from hours nominations days last

@@ -13,7 +13,7 @@ impl Summer<'_> {
     fn hour_line(&self, k: usize) -> HourLine
         ensures { result ≡ option_map_or (λ p. priced p.measured) (slice_get self.now.hours.now k) no_hour }
     {
-        self.hours.get(k).map_or(HourLine::default(), rates::priced)
+        self.hours.get(k).map(rates::priced).unwrap_or_default()
     }
 
     // The lines of the hours; those that are not used are zero.
