@@ -1,63 +1,70 @@
--- Lines that are filled in one by one.
-use Rattle.std.proofs.Common.{◌≡◌, ℕ, ◌+◌, ◌<◌, ◌≤◌, List, [], ◌∷◌, ◌++◌, map, length, get_or, take, set, replicate, sym, refl, ap, ◌∙◌, arith}
+-- Arrays of lines that are made place by place.
+use Rattle.std.proofs.Common.{◌≡◌, ℕ, zero, suc, ◌+◌, ◌-◌, ◌<◌, ◌≤◌, List, [], ◌∷◌, ◌++◌, map, length, get_or, replicate, subst, sym, refl, ap, ap₂, ◌∙◌, inl, inr, arith}
 use lib.ListN.{length-map}
-use Rattle.std.specs.List.{range_with_len}
-use Rattle.std.proofs.lemmas.List.FromFn.{length-map-range_with_len, map-range_with_len_more}
-use Rattle.std.proofs.lemmas.List.{map_more, take_all, length-take-le}
+use denote.Param.Members.{Mut, Called}
+use Rattle.std.specs.Array.{IsFromFnResultFrom}
+use Rattle.std.specs.List.{range_with_len, slice_get}
+use Rattle.std.specs.Option.{option_map_or}
+use Rattle.std.proofs.lemmas.Bool.{cases_eq, cases_lt}
+use Rattle.std.proofs.lemmas.List.{get_or_past}
+use Rattle.std.proofs.lemmas.List.FromFn.{length-map-range_with_len, get_or-map-range_with_len}
 use Rattle.tariff.specs.Pay.{filled, priced, no_hour, no_week}
-use Rattle.tariff.proofs.Pointwise.{filled_more}
 use Rattle.tariff.specs.declared.statement.HourLine.{HourLine}
 use Rattle.tariff.specs.declared.statement.WeekLine.{WeekLine}
 use Rattle.pay.specs.declared.placed.PlacedHour.{PlacedHour}
-use Rattle.pay.specs.Paying.{hour_lines_of, week_line_in, week_lines_of}
+use Rattle.pay.specs.Paying.{measured_list, hour_lines_of, week_line_in, week_lines_of}
+
+-- what a closure that stays as it is answers at each place of an array made by its calls
+pub calls_at : {F B : Type 0} (g : Mut F (ℕ × Unit {0}) B) (f : F) (R : ℕ → B → Type 0) (keeps : (k : ℕ) (y : B) (q : F) → Called g f (k, tt) y q → (q ≡ f) × R k y) (n i : ℕ) (p : F) (ys : List B) → p ≡ f → IsFromFnResultFrom g p ys i n → (k : ℕ) (d : B) → i ≤ k → k < i + n → R k (get_or ys k d)
+calls_at g f R keeps zero i p ys e h k d l m = absurd (omega arith)
+calls_at g f R keeps (suc n) i p ys e h k d l m =
+    let here = keeps i h.1 h.0 (subst (λ s. Called g s (i, tt) h.1 h.0) e h.3) in
+    elim (cases_eq k i) [
+      | inl q ↦ rw q (rw (h.2.1 d) here.1)
+      | inr q ↦ calls_at g f R keeps n (i + 1) h.0 ys here.0 h.4 k d (omega arith) (omega arith)
+    ]
+
+-- a list that holds xs and then z at every place is xs filled by z
+filled_is : {A : Type 0} (z : A) (n : ℕ) (xs ys : List A) → length xs ≤ n → length ys ≡ n → ((k : ℕ) → k < n → get_or ys k z ≡ get_or xs k z) → ys ≡ filled z n xs
+filled_is z zero [] [] l m h = refl
+filled_is z zero [] (y ∷ ys) l m h = absurd (omega arith)
+filled_is z zero (x ∷ xs) ys l m h = absurd (omega arith)
+filled_is z (suc n) xs [] l m h = absurd (omega arith)
+filled_is z (suc n) [] (y ∷ ys) l m h =
+    let left : suc (n - 0) ≡ suc n - 0 = omega arith in
+    ap₂ ◌∷◌ (h 0 (omega arith)) (filled_is z n [] ys (omega arith) (omega arith) (λ k i. h (suc k) (omega arith))) ∙ ap (λ i. replicate i z) left
+filled_is z (suc n) (x ∷ xs) (y ∷ ys) l m h =
+    let left : n - length xs ≡ suc n - suc (length xs) = omega arith in
+    ap₂ ◌∷◌ (h 0 (omega arith)) (filled_is z n xs ys (omega arith) (omega arith) (λ k i. h (suc k) (omega arith))) ∙ ap (λ i. x ∷ xs ++ replicate i z) left
 
 -- ---- hour lines
 
-abbrev line_of : PlacedHour → HourLine
+abbrev pub line_of : PlacedHour → HourLine
 line_of p = priced p.measured
 
-lines_are : (hours : List PlacedHour) → map line_of hours ≡ hour_lines_of hours
+lines_are : (hours : List PlacedHour) → length (hour_lines_of hours) ≡ length hours
 unfolding hour_lines_of
-lines_are [] = refl
-lines_are (p ∷ hours) = ap (λ ls. line_of p ∷ ls) (lines_are hours)
+lines_are hours = length-map (measured_list hours) priced ∙ length-map hours (λ p. p.measured)
 
--- the lines of the first k hours, with those that are not used
-unfoldable pub lines_to : List PlacedHour → ℕ → List HourLine
-lines_to hours k = filled no_hour 60 (map line_of (take k hours))
+line_at : (hours : List PlacedHour) (k : ℕ) → get_or (hour_lines_of hours) k no_hour ≡ option_map_or line_of (slice_get hours k) no_hour
+unfolding hour_lines_of
+line_at [] k = refl
+line_at (p ∷ hours) zero = refl
+line_at (p ∷ hours) (suc k) = line_at hours k
 
-pub lines_to_none : (hours : List PlacedHour) → replicate 60 no_hour ≡ lines_to hours 0
-unfolding lines_to
-lines_to_none hours = refl
-
-pub lines_to_more : (hours : List PlacedHour) (k : ℕ) (y : HourLine) (d : PlacedHour) → k < length hours → k < 60 → y ≡ priced (get_or hours k d).measured → set (lines_to hours k) k y ≡ lines_to hours (k + 1)
-unfolding lines_to
-lines_to_more hours k y d h l e =
-    let xs : List HourLine = map line_of (take k hours) in
-    let long : length xs ≡ k = length-map (take k hours) line_of ∙ length-take-le k hours (omega arith) in
-    filled_more no_hour 60 k xs y long l ∙ ap (λ z. filled no_hour 60 (xs ++ z ∷ [])) e ∙ ap (filled no_hour 60) (sym (map_more line_of hours k d h))
-
-pub lines_to_all : (hours : List PlacedHour) (k : ℕ) → length hours ≤ k → lines_to hours k ≡ filled no_hour 60 (hour_lines_of hours)
-unfolding lines_to
-lines_to_all hours k h = ap (λ hs. filled no_hour 60 (map line_of hs)) (take_all k hours h) ∙ ap (filled no_hour 60) (lines_are hours)
+pub hours_filled : (hours : List PlacedHour) (ls : List HourLine) → length hours ≤ 60 → length ls ≡ 60 → ((k : ℕ) → k < 60 → get_or ls k no_hour ≡ option_map_or line_of (slice_get hours k) no_hour) → ls ≡ filled no_hour 60 (hour_lines_of hours)
+hours_filled hours ls l m h = filled_is no_hour 60 (hour_lines_of hours) ls (omega (arith, lines_are hours)) m (λ k i. h k i ∙ sym (line_at hours k))
 
 -- ---- week lines
 
-module _ (nominations days : List ℕ) (hours : List PlacedHour) where
-  -- the lines of weeks 1 to k, with those that are not used
-  unfoldable pub weeks_to : ℕ → List WeekLine
-  weeks_to k = filled no_week 10 (map (week_line_in nominations days hours) (range_with_len 1 k))
-
-  pub weeks_to_none : replicate 10 no_week ≡ weeks_to 0
-  unfolding weeks_to
-  weeks_to_none = refl
-
-  pub weeks_to_more : (k : ℕ) (y : WeekLine) → k < 10 → y ≡ week_line_in nominations days hours (k + 1) → set (weeks_to k) k y ≡ weeks_to (k + 1)
-  unfolding weeks_to
-  weeks_to_more k y l e =
-      let f : ℕ → WeekLine = week_line_in nominations days hours in
-      let xs : List WeekLine = map f (range_with_len 1 k) in
-      filled_more no_week 10 k xs y (length-map-range_with_len f 1 k) l ∙ ap (λ z. filled no_week 10 (xs ++ z ∷ [])) e ∙ ap (filled no_week 10) (sym (map-range_with_len_more f 1 k (k + 1) (omega arith)))
-
-  pub weeks_to_all : (last : ℕ) → weeks_to last ≡ filled no_week 10 (week_lines_of nominations days last hours)
-  unfolding weeks_to week_lines_of
-  weeks_to_all last = refl
+pub weeks_filled : (nominations days : List ℕ) (last : ℕ) (hours : List PlacedHour) (ls : List WeekLine) → last ≤ 10 → length ls ≡ 10 → ((k : ℕ) → k < last → get_or ls k no_week ≡ week_line_in nominations days hours (k + 1)) → ((k : ℕ) → last ≤ k → k < 10 → get_or ls k no_week ≡ no_week) → ls ≡ filled no_week 10 (week_lines_of nominations days last hours)
+unfolding week_lines_of
+weeks_filled nominations days last hours ls l m used rest =
+    let f : ℕ → WeekLine = week_line_in nominations days hours in
+    let xs : List WeekLine = map f (range_with_len 1 last) in
+    let long : length xs ≡ last = length-map-range_with_len f 1 last in
+    filled_is no_week 10 xs ls (omega arith) m (λ k i.
+    elim (cases_lt k last) [
+      | inl q ↦ used k q ∙ sym (get_or-map-range_with_len f 1 last k (k + 1) no_week q (omega arith))
+      | inr q ↦ rest k q i ∙ sym (get_or_past xs k no_week (omega arith))
+    ])

@@ -1,13 +1,14 @@
--- Sums over measured hours and weeks, as loops come to them and as the tariff has them.
-use Rattle.std.proofs.Common.{◌≡◌, ℕ, zero, suc, ◌+◌, ◌-◌, ◌<◌, Bool, true, false, cond, eqb, List, [], ◌∷◌, map, length, get_or, take, replicate, sum_by, filter, sym, refl, ap, ◌∙◌, ap₂, zero-add, arith}
+-- Sums over measured hours and weeks, as chains come to them and as the tariff has them.
+use Rattle.std.proofs.Common.{◌≡◌, ℕ, ◌+◌, ◌-◌, ◌*◌, ◌≤◌, List, [], ◌∷◌, map, length, get_or, replicate, sum_by, filter, nat_eq, sym, refl, ap, ◌∙◌, ap₂, arith}
 use lib.ListN.{length-map}
-use Rattle.std.proofs.lemmas.List.Sums.{sum_by-cons, sum_by-append, sum_by_more, length-filter}
-use Rattle.tariff.specs.Pay.{energy_for, adjustment_for, counted_reduction, counted_sum, charged_of, incentive_of, priced, filled, no_hour, no_week}
+use Rattle.std.proofs.lemmas.List.Sums.{sum_by-cons, sum_by-append, sum_by-le, length-filter, count_by-le-length}
+use Rattle.std.proofs.lemmas.List.Folds.{sum_by-replicate}
+use Rattle.tariff.specs.Pay.{energy_for, adjustment_for, capacity_for, counted_reduction, counted_sum, charged_of, incentive_of, priced, filled, no_hour, no_week}
 use Rattle.tariff.specs.declared.statement.HourLine.{HourLine}
 use Rattle.tariff.specs.declared.statement.MeasuredHour.{MeasuredHour}
 use Rattle.tariff.specs.declared.statement.WeekLine.{WeekLine}
 use Rattle.pay.specs.declared.placed.PlacedHour.{PlacedHour}
-use Rattle.pay.specs.Paying.{measured_list, measured_in_week, hour_lines_of, week_lines_of, totalled, statement_from}
+use Rattle.pay.specs.Paying.{measured_list, measured_in_week, hour_lines_of, week_line_in, week_lines_of, totalled, statement_from}
 
 abbrev pub energy_in : PlacedHour → ℕ
 energy_in p = energy_for p.measured.event p.measured.reduction
@@ -15,28 +16,36 @@ energy_in p = energy_for p.measured.event p.measured.reduction
 abbrev pub adjustment_in : PlacedHour → ℕ
 adjustment_in p = adjustment_for p.measured.event p.measured.shortfall
 
-abbrev pub counted_in : ℕ → ℕ → PlacedHour → ℕ
-counted_in nominated w p = cond (eqb p.week w) (counted_reduction nominated p.measured.reduction) 0
+abbrev pub counted_in : ℕ → PlacedHour → ℕ
+counted_in nominated p = counted_reduction nominated p.measured.reduction
 
-abbrev pub hour_in : ℕ → PlacedHour → ℕ
-hour_in w p = cond (eqb p.week w) 1 0
+abbrev pub those_in : ℕ → List PlacedHour → List PlacedHour
+those_in w hours = filter (λ p. nat_eq p.week w) hours
 
--- one element more
-pub sum_more : {X : Type 0} (f : X → ℕ) (xs : List X) (i : ℕ) (x : X) (total n : ℕ) → i < length xs → x ≡ get_or xs i x → total ≡ sum_by f (take i xs) → n ≡ f x → total + n ≡ sum_by f (take (i + 1) xs)
-sum_more f xs i x total n h is e g = ap₂ ◌+◌ e (g ∙ ap f is) ∙ sym (sum_by_more f xs i x h)
+-- ---- what the hours of a list come to at most
+
+energy_low : (p : PlacedHour) → energy_in p ≤ 1920000000
+energy_low p = grind (arith, p.reduced)
+
+counted_low : (nominated : ℕ) (p : PlacedHour) → counted_in nominated p ≤ 120000000
+counted_low nominated p = grind (arith, p.reduced)
+
+pub energy_few : (hours : List PlacedHour) → length hours ≤ 60 → sum_by energy_in hours ≤ 115200000000
+energy_few hours l = omega (arith, sum_by-le energy_in 1920000000 hours (λ k d i. energy_low (get_or hours k d)))
+
+those_few : (w : ℕ) (hours : List PlacedHour) → length (those_in w hours) ≤ length hours
+those_few w hours = omega (arith, length-filter (λ (p : PlacedHour). nat_eq p.week w) hours, count_by-le-length (λ (p : PlacedHour). nat_eq p.week w) hours)
+
+pub counted_few : (nominated w : ℕ) (hours : List PlacedHour) → length hours ≤ 60 → sum_by (counted_in nominated) (those_in w hours) ≤ 7200000000
+counted_few nominated w hours l =
+    let those : List PlacedHour = those_in w hours in
+    omega (arith, those_few w hours, sum_by-le (counted_in nominated) 120000000 those (λ k d i. counted_low nominated (get_or those k d)))
+
+-- ---- the tariff's own sums
 
 pub sumBy_map : {X Y : Type 0} (f : Y → ℕ) (g : X → Y) (xs : List X) → sum_by (λ x. f (g x)) xs ≡ sum_by f (map g xs)
 sumBy_map f g [] = refl
 sumBy_map f g (x ∷ xs) = sum_by-cons (λ y. f (g y)) x xs ∙ ap (λ n. f (g x) + n) (sumBy_map f g xs) ∙ sym (sum_by-cons f (g x) (map g xs))
-
-sum_kept : {X : Type 0} (p : X → Bool) (f : X → ℕ) (xs : List X) → sum_by (λ x. cond (p x) (f x) 0) xs ≡ sum_by f (filter p xs)
-sum_kept p f [] = refl
-sum_kept p f (x ∷ xs) =
-    sum_by-cons (λ y. cond (p y) (f y) 0) x xs ∙ ap (λ n. cond (p x) (f x) 0 + n) (sum_kept p f xs) ∙ one (p x)
-  where
-    one : (b : Bool) → cond b (f x) 0 + sum_by f (filter p xs) ≡ sum_by f (cond b (x ∷ filter p xs) (filter p xs))
-    one true = sym (sum_by-cons f x (filter p xs))
-    one false = zero-add _
 
 pub energy_sum : (hours : List PlacedHour) → sum_by energy_in hours ≡ sum_by (λ l. l.energy) (hour_lines_of hours)
 unfolding hour_lines_of
@@ -46,24 +55,26 @@ pub adjustment_sum : (hours : List PlacedHour) → sum_by adjustment_in hours �
 unfolding hour_lines_of charged_of
 adjustment_sum hours = sumBy_map (λ (m : MeasuredHour). adjustment_for m.event m.shortfall) (λ p. p.measured) hours ∙ sumBy_map (λ (l : HourLine). l.adjustment) priced (measured_list hours)
 
-pub counted_total_lem : (nominated w : ℕ) (hours : List PlacedHour) → sum_by (counted_in nominated w) hours ≡ counted_sum nominated (measured_in_week w hours)
+counted_is : (nominated w : ℕ) (hours : List PlacedHour) → sum_by (counted_in nominated) (those_in w hours) ≡ counted_sum nominated (measured_in_week w hours)
 unfolding counted_sum measured_in_week
-counted_total_lem nominated w hours =
-    sum_kept (λ (p : PlacedHour). eqb p.week w) (λ p. counted_reduction nominated p.measured.reduction) hours
-    ∙ sumBy_map (λ (m : MeasuredHour). counted_reduction nominated m.reduction) (λ p. p.measured) (filter (λ (p : PlacedHour). eqb p.week w) hours)
+counted_is nominated w hours = sumBy_map (λ (m : MeasuredHour). counted_reduction nominated m.reduction) (λ p. p.measured) (those_in w hours)
 
-pub hours_total : (w : ℕ) (hours : List PlacedHour) → sum_by (hour_in w) hours ≡ length (measured_in_week w hours)
+hours_are : (w : ℕ) (hours : List PlacedHour) → length (those_in w hours) ≡ length (measured_in_week w hours)
 unfolding measured_in_week
-hours_total w hours =
-    sym (length-filter (λ (p : PlacedHour). eqb p.week w) hours) ∙ sym (length-map (filter (λ (p : PlacedHour). eqb p.week w) hours) (λ p. p.measured))
+hours_are w hours = sym (length-map (those_in w hours) (λ p. p.measured))
 
-sum_none : {X : Type 0} (f : X → ℕ) (z : X) (n : ℕ) → f z ≡ 0 → sum_by f (replicate n z) ≡ 0
-sum_none f z zero e = refl
-sum_none f z (suc n) e = sum_by-cons f z (replicate n z) ∙ omega (arith, e, sum_none f z n e)
+-- the figures of a week make its line
+pub week_line_is : (nominations days : List ℕ) (hours : List PlacedHour) (k n d count counted capacity : ℕ) → n ≡ get_or nominations k 0 → d ≡ get_or days k 0 → count ≡ length (those_in (k + 1) hours) → counted ≡ sum_by (counted_in n) (those_in (k + 1) hours) → capacity ≡ capacity_for n count counted d → record { nomination = n; hours = count; counted = counted; days = d; capacity = capacity } ≡ week_line_in nominations days hours (k + 1)
+week_line_is nominations days hours k n d count counted capacity a b e g h =
+    let at : (k + 1) - 1 ≡ k = omega arith in
+    cc (at, h, a, b, e ∙ hours_are (k + 1) hours, g ∙ counted_is n (k + 1) hours)
 
 -- entries that are not used add nothing
 pub sum_filled : {X : Type 0} (f : X → ℕ) (z : X) (n : ℕ) (xs : List X) → f z ≡ 0 → sum_by f (filled z n xs) ≡ sum_by f xs
-sum_filled f z n xs e = sum_by-append f xs (replicate (n - length xs) z) ∙ omega (arith, sum_none f z (n - length xs) e)
+sum_filled f z n xs e =
+    let m : ℕ = n - length xs in
+    let none : sum_by f (replicate m z) ≡ m * 0 = sum_by-replicate f m z ∙ ap (λ k. m * k) e in
+    sum_by-append f xs (replicate m z) ∙ omega (arith, none)
 
 -- lines and totals together are the statement
 pub totalled_is : (hours : List PlacedHour) (nominations days : List ℕ) (last : ℕ) (ls : List HourLine) (ws : List WeekLine) (paid energy charged : ℕ) → ls ≡ filled no_hour 60 (hour_lines_of hours) → ws ≡ filled no_week 10 (week_lines_of nominations days last hours) → paid ≡ sum_by (λ w. w.capacity) ws → energy ≡ sum_by (λ l. l.energy) (hour_lines_of hours) → charged ≡ charged_of (hour_lines_of hours) → totalled ls ws (paid + energy) charged ≡ statement_from hours nominations days last

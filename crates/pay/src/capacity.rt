@@ -1,42 +1,16 @@
-ghost use Rattle.std.specs.Prelude.{◌≡◌, ◌*◌, ◌/◌, ◌≤◌};
+ghost use Rattle.std.specs.Prelude.{◌≡◌, ◌≤◌};
 ghost use Rattle.tariff.specs.Pay.{«capacity_for»};
 
-// What an amount for each programme day of a week comes to.
-fn for_days(amount: u64, days: u8) -> u64
-    requires { amount ≤ 279172874175000 }
-    ensures value { result ≡ amount * days }
-    ensures bound { result ≤ 71189082914625000 }
-{
-    amount * days as u64
-}
-
-// What a week without an event hour pays: by its nomination.
-fn capacity_ready(nominated: u32, days: u8) -> u64
-    ensures value { result ≡ 65000 * nominated * days }
-    ensures bound { result ≤ 71189082914625000 }
-{
-    for_days(65000 * nominated as u64, days)
-}
-
-// What a week with event hours pays: by the mean of its counted reductions.
-fn capacity_shown(hours: u8, sum: u64, days: u8) -> u64
-    requires hours { 1 ≤ hours }
-    requires sum { sum ≤ 7200000000 }
-    ensures value { result ≡ 325 * sum * days / (5 * hours) }
-    ensures bound { result ≤ 71189082914625000 }
-{
-    for_days(325 * sum, days) / (5 * hours as u64)
-}
-
-// What a week pays for capacity, in millicents.
+// What a week pays for capacity, in millicents: by its nomination where it has no event hour, and else by the mean of its
+// counted reductions.
 pub(crate) fn capacity(nominated: u32, hours: u8, sum: u64, days: u8) -> u64
     requires { sum ≤ 7200000000 }
     ensures value { result ≡ capacity_for nominated hours sum days }
     ensures bound { result ≤ 71189082914625000 }
 {
     if hours == 0 {
-        capacity_ready(nominated, days)
+        65000 * u64::from(nominated) * u64::from(days)
     } else {
-        capacity_shown(hours, sum, days)
+        325 * sum * u64::from(days) / (5 * u64::from(hours))
     }
 }

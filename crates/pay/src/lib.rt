@@ -8,5 +8,6 @@ pub mod listing;
 pub mod placed;
 pub mod rates;
 pub mod statement;
+mod summer;
 pub mod totals;
 pub mod weeks;

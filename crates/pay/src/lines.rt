@@ -1,88 +1,57 @@
-ghost use Rattle.std.specs.Prelude.{◌≡◌, ℕ, ◌+◌, ◌<◌, ◌≤◌, length, slice_index_or};
-ghost use Rattle.tariff.specs.Pay.{filled, «no_hour», «no_week»};
+ghost use Rattle.std.specs.Prelude.{◌≡◌, ◌+◌, ◌<◌, ◌≤◌, sum_by, slice_get};
+ghost use Rattle.std.specs.Option.{option_map_or};
+ghost use Rattle.tariff.specs.Pay.{filled, priced, «no_hour», «no_week»};
 ghost use Rattle.pay.specs.Paying.{«hour_lines_of», «week_line_in», «week_lines_of»};
 
-use crate::placed::PlacedHour;
-use crate::totals::{counted_total, week_hours};
-use crate::weeks::Weeks;
+use crate::summer::Summer;
 use crate::{capacity, rates};
+use std::array;
 use tariff::statement::{HourLine, WeekLine};
 
-const NO_HOUR: HourLine = HourLine {
-    event: 0,
-    day: 0,
-    hour: 0,
-    base: 0,
-    adjusted: 0,
-    reduction: 0,
-    shortfall: 0,
-    energy: 0,
-    adjustment: 0,
-};
-
-const NO_WEEK: WeekLine = WeekLine {
-    nomination: 0,
-    hours: 0,
-    counted: 0,
-    days: 0,
-    capacity: 0,
-};
-
-// The lines of the hours; those that are not used are zero.
-pub(crate) fn hour_lines(hours: &[PlacedHour]) -> [HourLine; 60]
-    requires { length hours.now ≤ 60 }
-    ensures { result ≡ filled no_hour 60 (hour_lines_of hours.now) }
-{
-    let mut lines = [NO_HOUR; 60];
-    for k in 0..hours.len() {
-        lines[k] = rates::priced(&hours[k]);
+impl Summer<'_> {
+    // The line of the k-th hour, counted from 0; zero where there is none.
+    fn hour_line(&self, k: usize) -> HourLine
+        ensures { result ≡ option_map_or (λ p. priced p.measured) (slice_get self.now.hours.now k) no_hour }
+    {
+        self.hours.get(k).map(rates::priced).unwrap_or_default()
     }
-    lines
-}
 
-// The line of a week, counted from 1.
-fn week_line(hours: &[PlacedHour], nominations: &[u32; 10], weeks: &Weeks, week: u8) -> WeekLine
-    requires few { length hours.now ≤ 60 }
-    requires week { (1 ≤ week) × (week ≤ 10) }
-    ensures value { result ≡ week_line_in nominations.now weeks.now.days hours.now week }
-    ensures bound { result.capacity ≤ 71189082914625000 }
-{
-    let nomination = nominations[week as usize - 1];
-    let days = weeks.days[week as usize - 1];
-    let counted = counted_total(hours, nomination, week);
-    let count = week_hours(hours, week);
-    WeekLine {
-        nomination,
-        hours: count,
-        counted,
-        days,
-        capacity: capacity::capacity(nomination, count, counted, days),
+    // The lines of the hours; those that are not used are zero.
+    pub(crate) fn hour_lines(&self) -> [HourLine; 60]
+        ensures { result ≡ filled no_hour 60 (hour_lines_of self.now.hours.now) }
+    {
+        array::from_fn(|k| self.hour_line(k))
     }
-}
 
-// The line of the k-th week, counted from 0.
-fn week_line_at(hours: &[PlacedHour], nominations: &[u32; 10], weeks: &Weeks, k: u8) -> WeekLine
-    requires few { length hours.now ≤ 60 }
-    requires week { k < 10 }
-    ensures value { result ≡ week_line_in nominations.now weeks.now.days hours.now (k + 1) }
-    ensures bound { result.capacity ≤ 71189082914625000 }
-{
-    week_line(hours, nominations, weeks, k + 1)
-}
-
-// The lines of weeks 1 to the last; those that are not used are zero.
-pub(crate) fn week_lines(
-    hours: &[PlacedHour],
-    nominations: &[u32; 10],
-    weeks: &Weeks,
-) -> [WeekLine; 10]
-    requires { length hours.now ≤ 60 }
-    ensures value { result ≡ filled no_week 10 (week_lines_of nominations.now weeks.now.days weeks.now.last hours.now) }
-    ensures bound { (k : ℕ) → k < 10 → (slice_index_or result k no_week).capacity ≤ 71189082914625000 }
-{
-    let mut lines = [NO_WEEK; 10];
-    for k in 0..weeks.last {
-        lines[k as usize] = week_line_at(hours, nominations, weeks, k);
+    // The line of the k-th week, counted from 0; zero past the last.
+    fn week_line(&self, k: usize) -> WeekLine
+        requires { k < 10 }
+        ensures line { k < self.now.weeks.now.last → result ≡ week_line_in self.now.nominations.now self.now.weeks.now.days self.now.hours.now (k + 1) }
+        ensures past { self.now.weeks.now.last ≤ k → result ≡ no_week }
+        ensures bound { result.capacity ≤ 71189082914625000 }
+    {
+        if k >= usize::from(self.weeks.last) {
+            return WeekLine::default();
+        }
+        let nomination = self.nominations[k];
+        let days = self.weeks.days[k];
+        let week = k as u8 + 1;
+        let counted = self.counted(nomination, week);
+        let hours = self.event_hours(week);
+        WeekLine {
+            nomination,
+            hours,
+            counted,
+            days,
+            capacity: capacity::capacity(nomination, hours, counted, days),
+        }
     }
-    lines
+
+    // The lines of weeks 1 to the last; those that are not used are zero.
+    pub(crate) fn week_lines(&self) -> [WeekLine; 10]
+        ensures value { result ≡ filled no_week 10 (week_lines_of self.now.nominations.now self.now.weeks.now.days self.now.weeks.now.last self.now.hours.now) }
+        ensures bound { sum_by (λ w. w.capacity) result ≤ 711890829146250000 }
+    {
+        array::from_fn(|k| self.week_line(k))
+    }
 }

@@ -1,4 +1,4 @@
-ghost use Rattle.std.specs.Prelude.{◌≡◌, ◌≤◌, if◌then◌else◌, ◌==◌, nat_eq};
+ghost use Rattle.std.specs.Prelude.{◌≡◌, ◌≤◌};
 ghost use Rattle.tariff.specs.Pay.{«energy_for», «adjustment_for», «counted_reduction», priced};
 
 use crate::placed::PlacedHour;
@@ -29,41 +29,15 @@ pub(crate) fn adjustment(hour: &PlacedHour) -> u64
 }
 
 // What counts of an hour's reduction for a week's capacity: at most 120 percent of the nomination.
-fn counted(hour: &PlacedHour, nominated: u32) -> u64
+pub(crate) fn counted(hour: &PlacedHour, nominated: u32) -> u64
     ensures value { result ≡ counted_reduction nominated hour.now.measured.reduction }
     ensures bound { result ≤ 120000000 }
 {
-    hour.measured.reduction.min(1200 * nominated as u64)
-}
-
-// The hour lies in the week.
-fn lies_in(hour: &PlacedHour, week: u8) -> bool
-    ensures { result ≡ (hour.now.week == week) }
-{
-    hour.week == week
-}
-
-// What counts of an hour for a week: nothing where it lies in another.
-pub(crate) fn counted_for(hour: &PlacedHour, nominated: u32, week: u8) -> u64
-    ensures value { result ≡ (if nat_eq hour.now.week week then counted_reduction nominated hour.now.measured.reduction else 0) }
-    ensures bound { result ≤ 120000000 }
-{
-    if lies_in(hour, week) {
-        counted(hour, nominated)
-    } else {
-        0
-    }
-}
-
-// The hours of a week that one hour is: one, or none.
-pub(crate) fn hours_for(hour: &PlacedHour, week: u8) -> u8
-    ensures value { result ≡ (if nat_eq hour.now.week week then 1 else 0) }
-    ensures bound { result ≤ 1 }
-{
-    if lies_in(hour, week) { 1 } else { 0 }
+    hour.measured.reduction.min(1200 * u64::from(nominated))
 }
 
 // The line of an hour.
+// Field by field: a line and a measured hour share seven fields, and no struct of them.
 pub fn priced(hour: &PlacedHour) -> HourLine
     ensures { result ≡ priced hour.now.measured }
 {

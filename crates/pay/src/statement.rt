@@ -1,11 +1,10 @@
-ghost use Rattle.std.specs.Prelude.{◌≡◌, ◌≤◌, length};
+ghost use Rattle.std.specs.Prelude.{◌≡◌};
 ghost use Rattle.pay.specs.Listed.{listed};
 ghost use Rattle.pay.specs.Paying.{totalled, «statement_from», PaidAsTheTariffSays};
 
-use crate::lines;
 use crate::list::HourList;
-use crate::placed::PlacedHour;
-use crate::totals::{total_adjustment, total_capacity, total_energy};
+use crate::summer::Summer;
+use crate::totals::total_capacity;
 use crate::weeks::Weeks;
 use tariff::statement::{HourLine, Statement, WeekLine};
 
@@ -26,16 +25,17 @@ fn written(hours: [HourLine; 60], weeks: [WeekLine; 10], incentive: u64, charged
     }
 }
 
-// The statement of at most 60 hours.
-fn statement_of(hours: &[PlacedHour], nominations: &[u32; 10], weeks: &Weeks) -> Statement
-    requires { length hours.now ≤ 60 }
-    ensures value { result ≡ statement_from hours.now nominations.now weeks.now.days weeks.now.last }
-    ensures tariff { PaidAsTheTariffSays hours.now nominations.now weeks.now.days weeks.now.last result }
-{
-    let lines = lines::hour_lines(hours);
-    let week_lines = lines::week_lines(hours, nominations, weeks);
-    let incentive = total_capacity(&week_lines) + total_energy(hours);
-    written(lines, week_lines, incentive, total_adjustment(hours))
+impl Summer<'_> {
+    // The statement of the site.
+    #[tactic(auto, using(crate::proofs::Sums::energy_few))]
+    fn statement(&self) -> Statement
+        ensures value { result ≡ statement_from self.now.hours.now self.now.nominations.now self.now.weeks.now.days self.now.weeks.now.last }
+        ensures tariff { PaidAsTheTariffSays self.now.hours.now self.now.nominations.now self.now.weeks.now.days self.now.weeks.now.last result }
+    {
+        let weeks = self.week_lines();
+        let incentive = total_capacity(&weeks) + self.energy();
+        written(self.hour_lines(), weeks, incentive, self.adjustment())
+    }
 }
 
 // The statement of a site with these measured hours, its nominations, week 1 first, and the weeks of the season.
@@ -43,5 +43,11 @@ pub fn statement_from(hours: &HourList, nominations: &[u32; 10], weeks: &Weeks) 
     ensures value { result ≡ statement_from (listed hours.now) nominations.now weeks.now.days weeks.now.last }
     ensures tariff { PaidAsTheTariffSays (listed hours.now) nominations.now weeks.now.days weeks.now.last result }
 {
-    statement_of(&hours.hours[0..hours.count as usize], nominations, weeks)
+    let hours = hours.as_slice();
+    let summer = Summer {
+        hours,
+        nominations,
+        weeks,
+    };
+    summer.statement()
 }

@@ -1,9 +1,14 @@
-use borrow.Author.Rules.{rules}
-use Rattle.tariff.proofs.Totals.{count_none, count_more}
+use Rattle.std.proofs.Common.{ℕ, Bool, ◌∙◌, rules, tests, arith}
+use Rattle.std.proofs.lemmas.Iterator.{YieldsList-from_range}
+use Rattle.std.proofs.lemmas.Iterator.Consumers.{count_from_yields_List, YieldsList-from_filter}
+use Rattle.tariff.specs.Calendar.{programme_day, programme_days}
+use Rattle.calendar.proofs.Counted.{range_counted}
 use Rattle.calendar.proofs.programme_days.Goals as goal
 
-pub loop-day-init : goal.loop-day-init
-loop-day-init c = search (rules, count_none)
-
-pub loop-day-preserved : goal.loop-day-preserved
-loop-day-preserved c = search (rules, count_more)
+pub returns-clause-is : goal.returns-clause-is
+unfolding programme_days
+returns-clause-is c =
+    let test : ℕ → Bool = programme_day c.args.year c.args.week in
+    count_from_yields_List c.filter.result _ c.count.ensures.ran
+    (YieldsList-from_filter _ test (YieldsList-from_range 0 76 76 (cc) (omega arith)) c.filter.ensures.closure (λ x b q k. search (rules, tests)))
+    ∙ range_counted test 76
