@@ -1,7 +1,7 @@
 // The record of a season.
 ghost use Rattle.std.specs.Prelude.{◌≡◌, ◌≤◌, length};
 ghost use Rattle.tariff.specs.Events.{hours_before};
-ghost use Rattle.season.specs.Tables.{Blank, listed};
+ghost use Rattle.season.specs.Tables.{listed};
 ghost use Rattle.season.specs.Tests.{AllFit, AllWhole, WeeksHold};
 
 use crate::events::EventTable;
@@ -23,9 +23,6 @@ pub struct Season {
     clock: u32,
     sites: SiteTable,
     events: EventTable,
-    ghost room: { sites.count ≤ 64 },
-    ghost cells: { length sites.sites ≡ 64 },
-    ghost blank: { Blank sites },
     ghost whole: { AllWhole (listed sites) },
     ghost summer: { length events.days ≡ 76 },
     ghost fit: { AllFit year events.days },

@@ -4,7 +4,7 @@ ghost use Rattle.std.specs.List.{AllByRecursion};
 ghost use Rattle.tariff.specs.Comparison as spec;
 ghost use Rattle.tariff.specs.Events.{event_hours_before};
 ghost use Rattle.tariff.specs.Season as model;
-ghost use Rattle.season.specs.Hours.{Placed, RestZero, hours_listed};
+ghost use Rattle.season.specs.Hours.{Placed, hours_listed};
 ghost use Rattle.season.specs.View.{view};
 
 use super::Season;
@@ -18,8 +18,6 @@ impl Season {
         requires { days ≤ 76 }
         ensures is { hours_listed result ≡ event_hours_before (view self.now).days days }
         ensures counted { result.count ≡ length (event_hours_before (view self.now).days days) }
-        ensures rest { RestZero result }
-        ensures within { result.count ≤ 60 }
         ensures placed { AllByRecursion (Placed (view self.now)) (hours_listed result) }
     {
         let mut hours = EventHours::new();
@@ -38,8 +36,6 @@ impl Season {
     pub fn event_hours(&self) -> EventHours
         ensures is { hours_listed result ≡ model.season_event_hours (view self.now) }
         ensures counted { result.count ≡ length (model.season_event_hours (view self.now)) }
-        ensures rest { RestZero result }
-        ensures within { result.count ≤ 60 }
         ensures placed { AllByRecursion (Placed (view self.now)) (hours_listed result) }
     {
         self.hours_before(76)

@@ -1,9 +1,11 @@
-use Rattle.std.proofs.Common.{rules}
-use Rattle.tariff.proofs.EventHours.{standing_none, standing_more}
+use Rattle.std.proofs.Common.{◌≡◌, ap, ◌∙◌, arith, rules}
+use Rattle.std.specs.List.{count_by}
+use Rattle.tariff.specs.Events.{stands, standing_before}
+use Rattle.season.proofs.Days.{standing_in}
 use Rattle.season.proofs.events.EventTable.standing_events.Goals as goal
 
-pub loop-day-init : goal.loop-day-init
-loop-day-init c = search (rules, standing_none)
-
-pub loop-day-preserved : goal.loop-day-preserved
-loop-day-preserved c = search (rules, standing_more)
+pub returns-clause-is : goal.returns-clause-is
+returns-clause-is c =
+    let days = c.args.self.now.days in
+    let counted : c.count.result ≡ count_by stands days = search rules in
+    counted ∙ standing_in days ∙ ap (standing_before days) (omega arith)

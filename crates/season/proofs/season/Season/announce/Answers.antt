@@ -18,4 +18,4 @@ invariant_of-self c =
     let m : model.Season = view_of s.year s.closed c.args.moment s.sites c.put.new.self in
     let answered : a ≡ answer (view s) call = search rules in
     let e : m ≡ after (view s) call a = search rules in
-    facts s.year c.args.moment s.closed s.sites c.put.new.self s.room s.cells s.blank (still_sound s call a m answered e)
+    facts s.year c.args.moment s.closed s.sites c.put.new.self (still_sound s call a m answered e)

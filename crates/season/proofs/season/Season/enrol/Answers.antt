@@ -1,4 +1,4 @@
-use Rattle.std.proofs.Common.{◌≡◌, Ok, Result, rules}
+use Rattle.std.proofs.Common.{◌≡◌, ◌+◌, length, Ok, Result, rules}
 use Rattle.tariff.specs.Season as model
 use Rattle.tariff.specs.Calls.{answer, after}
 use Rattle.tariff.specs.declared.call.Answer.{Answer}
@@ -14,8 +14,8 @@ pub invariant_of-self : goal.invariant_of-self
 invariant_of-self c =
     let s = c.args.self.now in
     let call : Call = Enrol c.args.moment c.args.kind c.args.kw in
-    let a : Result Answer SeasonRefusal = Ok (SiteNumber c.in_ok-number.number) in
+    let a : Result Answer SeasonRefusal = Ok (SiteNumber (length (view s).sites + 1)) in
     let m : model.Season = view_of s.year s.closed s.clock c.enrol.new.self s.events in
     let answered : a ≡ answer (view s) call = search rules in
     let e : m ≡ after (view s) call a = search rules in
-    facts s.year s.clock s.closed c.enrol.new.self s.events (search rules) c.enrol.ensures.cells c.enrol.ensures.blank (still_sound s call a m answered e)
+    facts s.year s.clock s.closed c.enrol.new.self s.events (still_sound s call a m answered e)

@@ -1,10 +1,10 @@
 use Rattle.std.proofs.Common.{◌≡◌, sym, ap, ◌∙◌, subst, arith, rules}
 use Rattle.std.specs.List.{AllByRecursion}
-use Rattle.tariff.specs.Events.{day_hours, day_in, event_hours_before, hours_before}
+use Rattle.tariff.specs.Events.{day_hours, day_in, event_hours_before}
 use Rattle.tariff.proofs.EventHours.{event_hours_none, hours_none, hours_more, standing_none, standing_more}
 use Rattle.season.specs.Hours.{Placed, hours_listed}
 use Rattle.season.specs.View.{view}
-use Rattle.season.proofs.HourLists.{counted_is, day_listed, day_room, hours_most, stood, all_placed}
+use Rattle.season.proofs.HourLists.{counted_is, day_listed, day_room, stood, all_placed}
 use Rattle.season.proofs.Sounds.{sound_of}
 use Rattle.season.proofs.season.Season.hours_before.Goals as goal
 use Rattle.season.proofs.season.Season.hours_before.Goals.{then-stands, else-stands}
@@ -14,12 +14,9 @@ push_day-requires c =
     let days = c.args.self.now.events.days in
     let d = c.loop-day.day in
     let held : c.day-held.result ≡ day_in days d = search rules in
-    let inv = c.loop-day.invariant in
     record {
       room = omega (arith, day_room days d (omega arith) c.args.self.now.full, ap day_hours held);
       ends = λ stands. omega (arith, (c.day-held.ensures.fit (stood _ stands)).latest);
-      rest = inv.4;
-      cells = inv.5;
     }
 
 pub loop-day-preserved : goal.loop-day-preserved
@@ -32,8 +29,6 @@ loop-day-preserved c =
       search (rules, standing_more),
       omega (arith, hours_more days d, ap day_hours held),
       day_listed days d _ _ _ _ inv.1 inv.3 held c.push_day.ensures.list,
-      c.push_day.ensures.rest,
-      c.push_day.ensures.cells,
     )
 
 pub loop-day-init : goal.loop-day-init
@@ -49,7 +44,5 @@ returns c =
     record {
       is = is;
       counted = counted_is s.events.days c.loop-day.day n c.loop-day.hours.count end inv.2;
-      rest = inv.4;
-      within = omega (arith, ap (hours_before s.events.days) end, hours_most s.events.days n c.requires s.full);
       placed = subst (AllByRecursion (Placed (view s))) (sym is) (all_placed (view s) n (sound_of s) c.requires);
     }

@@ -18,4 +18,4 @@ invariant_of-self c =
     let m : model.Season = view_of s.year s.closed s.clock c.nominate.new.self s.events in
     let answered : a ≡ answer (view s) call = search rules in
     let e : m ≡ after (view s) call a = search rules in
-    facts s.year s.clock s.closed c.nominate.new.self s.events (search rules) c.nominate.ensures.cells c.nominate.ensures.blank (still_sound s call a m answered e)
+    facts s.year s.clock s.closed c.nominate.new.self s.events (still_sound s call a m answered e)
