@@ -32,9 +32,9 @@ pub announced_in : (days : List Day) → count_by announced days ≡ announced_b
 unfolding announced_before
 announced_in days = all_days (λ x. cond (announced x) 1 0) days ∙ count_is (λ d. announced (day_in days d)) (length days)
 
-pub standing_in : (days : List Day) → count_by stands days ≡ standing_before days (length days)
+pub standing_in : (days : List Day) (n : ℕ) → n ≤ length days → count_by stands (take n days) ≡ standing_before days n
 unfolding standing_before
-standing_in days = all_days (λ x. cond (stands x) 1 0) days ∙ count_is (λ d. stands (day_in days d)) (length days)
+standing_in days n h = first_days (λ x. cond (stands x) 1 0) days n h ∙ count_is (λ d. stands (day_in days d)) n
 
 pub hours_in : (days : List Day) → sum_by day_hours days ≡ hours_before days (length days)
 hours_in days = all_days day_hours days ∙ sym (hours_total days (length days))

@@ -86,12 +86,21 @@ impl EventTable {
         self.days.iter().filter(|day| is_announced(**day)).count() as u32
     }
 
+    // On how many of the first days an event stands.
+    pub(crate) fn standing_before(&self, days: u32) -> u32
+        requires { days ≤ 76 }
+        ensures is { result ≡ spec.standing_before self.now.days days }
+        ensures within { result ≤ days }
+    {
+        self.days[..days as usize].iter().filter(|day| stands(**day)).count() as u32
+    }
+
     // How many events stand.
     pub(crate) fn standing_events(&self) -> u32
         ensures is { result ≡ spec.standing_before self.now.days 76 }
         ensures within { result ≤ 76 }
     {
-        self.days.iter().filter(|day| stands(**day)).count() as u32
+        self.standing_before(76)
     }
 
     // How many hours they have.

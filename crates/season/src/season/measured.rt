@@ -8,7 +8,6 @@ ghost use Rattle.season.specs.Hours.{Placed, hours_listed};
 ghost use Rattle.season.specs.View.{view};
 
 use super::Season;
-use crate::events::stands;
 use crate::hours::EventHours;
 use tariff::season::Day;
 
@@ -21,13 +20,9 @@ impl Season {
         ensures placed { AllByRecursion (Placed (view self.now)) (hours_listed result) }
     {
         let mut hours = EventHours::new();
-        let mut numbered = 0;
         for day in 0..days {
-            let held = self.day(u32::from(day));
-            hours.push_day(numbered + 1, day, held);
-            if stands(held) {
-                numbered += 1;
-            }
+            let number = self.events.standing_before(u32::from(day)) as u8 + 1;
+            hours.push_day(number, day, self.day(u32::from(day)));
         }
         hours
     }
