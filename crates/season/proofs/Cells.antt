@@ -84,7 +84,7 @@ same_cells s t e =
       closed = ap (λ (m : model.Season). m.closed) e;
       clock = ap (λ (m : model.Season). m.clock) e;
       sites = table_same s.sites t.sites
-        (count_is s.sites ∙ ap (λ (m : model.Season). length m.sites) e ∙ sym (count_is t.sites))
-        (cells_are s.sites ∙ ap (λ (m : model.Season). padded m.sites) e ∙ sym (cells_are t.sites));
+          (count_is s.sites ∙ ap (λ (m : model.Season). length m.sites) e ∙ sym (count_is t.sites))
+          (cells_are s.sites ∙ ap (λ (m : model.Season). padded m.sites) e ∙ sym (cells_are t.sites));
       events = ap (λ (m : model.Season). days m.days) e;
     }

@@ -92,7 +92,10 @@ impl EventTable {
         ensures is { result ≡ spec.standing_before self.now.days days }
         ensures within { result ≤ days }
     {
-        self.days[..days as usize].iter().filter(|day| stands(**day)).count() as u32
+        self.days[..days as usize]
+            .iter()
+            .filter(|day| stands(**day))
+            .count() as u32
     }
 
     // How many events stand.

@@ -1,6 +1,7 @@
 // What a season's baselines are measured from: the hours of its standing events, and the days that an event is compared with.
 ghost use Rattle.std.specs.Prelude.{◌≡◌, ◌<◌, ◌≤◌, true, length, IfSome, if◌then◌else◌, Some, None};
 ghost use Rattle.std.specs.List.{AllByRecursion};
+ghost use Rattle.std.specs.Option.{option_to_list};
 ghost use Rattle.tariff.specs.Comparison as spec;
 ghost use Rattle.tariff.specs.Events.{event_hours_before};
 ghost use Rattle.tariff.specs.Season as model;
@@ -36,7 +37,14 @@ impl Season {
         self.hours_before(76)
     }
 
-    // The ten latest comparable days before the day of a standing event, the latest first.
+    // The latest comparable day before a day, where there is one.
+    fn latest_comparable(&self, before: u32) -> Option<u32>
+        ensures { option_to_list result ≡ spec.latest (spec.comparable (view self.now)) 1 before }
+    {
+        (0..before).rev().find(|day| self.comparable(*day))
+    }
+
+    // The ten latest comparable days before the day of a standing event, the latest first. There are always ten.
     fn ten_latest(&self, day: u32) -> [u8; 10]
         requires stands { model.standing (view self.now) day ≡ true }
         requires within { day ≤ 75 }
@@ -44,12 +52,10 @@ impl Season {
         ensures before { AllByRecursion (λ k. k < day) result }
     {
         let mut days = [0; 10];
-        let mut count = 0;
-        for k in (0..day).rev() {
-            if count < 10 && self.comparable(k) {
-                days[count] = k as u8;
-                count += 1;
-            }
+        let mut before = day;
+        for slot in &mut days {
+            before = self.latest_comparable(before).unwrap();
+            *slot = before as u8;
         }
         days
     }
