@@ -98,10 +98,6 @@ sound_of s = record {
   whole = passed is_whole Whole whole_of (view s).sites s.whole;
 }
 
--- after a call the season is sound again
-pub still_sound : (s : Season) (c : Call) (a : Result Answer SeasonRefusal) (m : model.Season) → a ≡ answer (view s) c → m ≡ after (view s) c a → Sound m
-still_sound s c a m answered e = subst Sound (sym (e ∙ ap (after (view s) c) answered)) (next_sound (view s) c (sound_of s))
-
 -- the facts of a record, by their names
 abbrev Facts : ℕ → SiteTable → EventTable → Type 0
 Facts year sites events = record {
@@ -112,7 +108,7 @@ Facts year sites events = record {
   full : hours_before events.days 76 ≤ 60;
 }
 
-pub facts : (year clock : ℕ) (closed : Bool) (sites : SiteTable) (events : EventTable) → Sound (view_of year closed clock sites events) → Facts year sites events
+facts : (year clock : ℕ) (closed : Bool) (sites : SiteTable) (events : EventTable) → Sound (view_of year closed clock sites events) → Facts year sites events
 facts year clock closed sites events a =
     let fit : AllFit year events.days = λ d h. fit_from year d (event_of (model.day_at (view_of year closed clock sites events) d)) (a.events d h) in
     record {
@@ -122,6 +118,11 @@ facts year clock closed sites events a =
       weekly = a.weekly;
       full = a.overall;
     }
+
+-- of a record that stands for the season which a call leaves
+pub facts_after : (s : Season) (c : Call) (a : Result Answer SeasonRefusal) (year clock : ℕ) (closed : Bool) (sites : SiteTable) (events : EventTable) → a ≡ answer (view s) c → view_of year closed clock sites events ≡ after (view s) c a → Facts year sites events
+facts_after s c a year clock closed sites events answered e =
+    facts year clock closed sites events (subst Sound (sym (e ∙ ap (after (view s) c) answered)) (next_sound (view s) c (sound_of s)))
 
 -- of a record with no sites and no events
 pub fresh_facts : (year : ℕ) (sites : SiteTable) (events : EventTable) → sites.count ≡ 0 → events.days ≡ replicate 76 NoEvent → Facts year sites events

@@ -1,5 +1,5 @@
 // The sites of a season, in the order of their enrolment.
-ghost use Rattle.std.specs.Prelude.{◌≡◌, ◌+◌, ◌-◌, ◌<◌, ◌≤◌, ◌&&◌, [], ◌∷◌, ◌++◌, length, take, replicate, nat_le, nat_lt, slice_index_or, slice_set, if◌then◌else◌, Some, None};
+ghost use Rattle.std.specs.Prelude.{◌≡◌, ◌+◌, ◌-◌, ◌<◌, ◌≤◌, ◌&&◌, [], ◌∷◌, ◌++◌, length, nat_le, nat_lt, slice_index_or, slice_set, if◌then◌else◌, Some, None};
 ghost use Rattle.tariff.specs.Calls.{figure_outside};
 ghost use Rattle.tariff.specs.Kinds as kinds;
 ghost use Rattle.tariff.specs.Season.{enrolled_site, no_site, nominated_site};
@@ -35,24 +35,17 @@ pub(crate) fn is_figure_outside(kind: Kind, kw: u32) -> bool
     !(least_kw(kind)..=100_000).contains(&kw)
 }
 
-// Puts a figure into a week, counted from 0, and all later weeks.
-fn fill_from(weeks: &mut [u32], first: usize, kw: u32)
-    requires { first ≤ length weeks.old }
-    ensures { weeks.new ≡ take first weeks.old ++ replicate (length weeks.old - first) kw }
-{
-    weeks[first..].fill(kw);
-}
-
 // Takes a site's figure for a week, counted from 1, and for all later weeks.
 fn take_figure(site: &mut Site, week: u32, kw: u32)
     requires { (1 ≤ week) × (week ≤ 10) }
     ensures { site.new ≡ nominated_site site.old week kw }
 {
     site.highest = site.highest.max(kw);
-    fill_from(&mut site.weeks, week as usize - 1, kw);
+    site.weeks[week as usize - 1..].fill(kw);
 }
 
 // Room for 64 sites, of which the first `count` are enrolled; the other cells are blank.
+// A fixed array, since no call of a season is refused for want of memory.
 #[derive(Clone, Copy, PartialEq, Eq)]
 pub struct SiteTable {
     pub count: u8,

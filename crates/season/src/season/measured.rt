@@ -21,6 +21,7 @@ impl Season {
         ensures placed { AllByRecursion (Placed (view self.now)) (hours_listed result) }
     {
         let mut hours = EventHours::new();
+        // by the day's number, since each hour tells it and the event's number follows from it
         for day in 0..days {
             let number = self.events.standing_before(u32::from(day)) as u8 + 1;
             hours.push_day(number, day, self.day(u32::from(day)));

@@ -1,6 +1,6 @@
-use Rattle.std.proofs.Common.{◌≡◌, ◌+◌, sym, ap, ◌∙◌, subst, arith, rules}
+use Rattle.std.proofs.Common.{◌≡◌, sym, ap, ◌∙◌, subst, arith, rules}
 use Rattle.std.specs.List.{AllByRecursion}
-use Rattle.tariff.specs.Events.{day_hours, day_in, event_hours_before, hours_before, standing_before}
+use Rattle.tariff.specs.Events.{day_hours, day_in, event_hours_before, standing_before}
 use Rattle.tariff.proofs.EventHours.{event_hours_none, hours_none, hours_more}
 use Rattle.season.specs.Hours.{Placed, hours_listed}
 use Rattle.season.specs.View.{view}

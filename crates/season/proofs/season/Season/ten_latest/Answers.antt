@@ -1,4 +1,4 @@
-use Rattle.std.proofs.Common.{◌≡◌, ◌+◌, ◌<◌, List, [], ◌∷◌, sym, refl, ap, ◌∙◌, arith, length-set}
+use Rattle.std.proofs.Common.{◌≡◌, [], ◌∷◌, sym, refl, ap, ◌∙◌, arith, length-set}
 use Rattle.std.specs.Option.{option_to_list}
 use Rattle.tariff.specs.Comparison.{comparable, comparison_days, latest}
 use Rattle.season.specs.View.{view}
