@@ -47,10 +47,6 @@ hours_least days m (suc n) h =
           omega (arith, hours_least days m n (omega arith))
     ]
 
--- no more than all of them
-pub hours_most : (days : List Day) (n : ℕ) → n ≤ 76 → hours_before days 76 ≤ 60 → hours_before days n ≤ 60
-hours_most days n most full = omega (arith, hours_least days n 76 most)
-
 -- there is room for the hours of a day
 pub day_room : (days : List Day) (d : ℕ) → d < 76 → hours_before days 76 ≤ 60 → hours_before days d + day_hours (day_in days d) ≤ 60
 day_room days d lt full = omega (arith, hours_more days d, hours_least days (d + 1) 76 (omega arith))

@@ -1,4 +1,5 @@
 pub mod Cells
+pub mod Days
 pub mod HourLists
 pub mod LatestDays
 pub mod Runs

@@ -16,7 +16,7 @@ use Rattle.tariff.specs.declared.call.Call.{Call}
 use Rattle.tariff.specs.declared.call.Answer.{Answer}
 use Rattle.tariff.specs.declared.call.SeasonRefusal.{SeasonRefusal}
 use Rattle.tariff.proofs.Runs.{opened_sound, next_sound}
-use Rattle.season.specs.Tables.{Blank, listed}
+use Rattle.season.specs.Tables.{listed}
 use Rattle.season.specs.Tests.{is_fit, AllFit, WeeksHold, is_whole, AllWhole}
 use Rattle.season.specs.View.{view, view_of}
 use Rattle.season.specs.declared.events.EventTable.{EventTable}
@@ -94,20 +94,13 @@ sound_of s = record {
   events = λ d h. fit_of s.year d (event_of (model.day_at (view s) d)) (s.fit d h);
   weekly = s.weekly;
   overall = s.full;
-  few = omega (arith, length-take s.sites.count s.sites.sites, s.room);
+  few = omega (arith, length-take s.sites.count s.sites.sites, s.sites.room);
   whole = passed is_whole Whole whole_of (view s).sites s.whole;
 }
-
--- after a call the season is sound again
-pub still_sound : (s : Season) (c : Call) (a : Result Answer SeasonRefusal) (m : model.Season) → a ≡ answer (view s) c → m ≡ after (view s) c a → Sound m
-still_sound s c a m answered e = subst Sound (sym (e ∙ ap (after (view s) c) answered)) (next_sound (view s) c (sound_of s))
 
 -- the facts of a record, by their names
 abbrev Facts : ℕ → SiteTable → EventTable → Type 0
 Facts year sites events = record {
-  room : sites.count ≤ 64;
-  cells : length sites.sites ≡ 64;
-  blank : Blank sites;
   whole : AllWhole (listed sites);
   summer : length events.days ≡ 76;
   fit : AllFit year events.days;
@@ -115,13 +108,10 @@ Facts year sites events = record {
   full : hours_before events.days 76 ≤ 60;
 }
 
-pub facts : (year clock : ℕ) (closed : Bool) (sites : SiteTable) (events : EventTable) → sites.count ≤ 64 → length sites.sites ≡ 64 → Blank sites → Sound (view_of year closed clock sites events) → Facts year sites events
-facts year clock closed sites events room cells blank a =
+facts : (year clock : ℕ) (closed : Bool) (sites : SiteTable) (events : EventTable) → Sound (view_of year closed clock sites events) → Facts year sites events
+facts year clock closed sites events a =
     let fit : AllFit year events.days = λ d h. fit_from year d (event_of (model.day_at (view_of year closed clock sites events) d)) (a.events d h) in
     record {
-      room = room;
-      cells = cells;
-      blank = blank;
       whole = passes is_whole Whole whole_from (listed sites) a.whole;
       summer = a.summer;
       fit = fit;
@@ -129,9 +119,14 @@ facts year clock closed sites events room cells blank a =
       full = a.overall;
     }
 
+-- of a record that stands for the season which a call leaves
+pub facts_after : (s : Season) (c : Call) (a : Result Answer SeasonRefusal) (year clock : ℕ) (closed : Bool) (sites : SiteTable) (events : EventTable) → a ≡ answer (view s) c → view_of year closed clock sites events ≡ after (view s) c a → Facts year sites events
+facts_after s c a year clock closed sites events answered e =
+    facts year clock closed sites events (subst Sound (sym (e ∙ ap (after (view s) c) answered)) (next_sound (view s) c (sound_of s)))
+
 -- of a record with no sites and no events
-pub fresh_facts : (year : ℕ) (sites : SiteTable) (events : EventTable) → sites.count ≡ 0 → length sites.sites ≡ 64 → Blank sites → events.days ≡ replicate 76 NoEvent → Facts year sites events
-fresh_facts year sites events none cells blank eventless =
+pub fresh_facts : (year : ℕ) (sites : SiteTable) (events : EventTable) → sites.count ≡ 0 → events.days ≡ replicate 76 NoEvent → Facts year sites events
+fresh_facts year sites events none eventless =
     let empty : listed sites ≡ [] = rw none in
     let same : model.opened model.never_opened year ≡ view_of year false 0 sites events = rw (empty, eventless) in
-    facts year 0 false sites events (omega arith) cells blank (subst Sound same (opened_sound model.never_opened year))
+    facts year 0 false sites events (subst Sound same (opened_sound model.never_opened year))

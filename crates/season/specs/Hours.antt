@@ -1,18 +1,11 @@
 -- What a list of event hours stands for, and what is known of each of its hours.
-use Rattle.std.specs.Prelude.{◌≡◌, ◌-◌, ◌≤◌, true, List, take, drop, replicate}
+use Rattle.std.specs.Prelude.{◌≡◌, ◌≤◌, true, List, take}
 use Rattle.tariff.specs.Season.{Season, standing}
 use Rattle.tariff.specs.declared.season.EventHour.{EventHour}
 use Rattle.season.specs.declared.hours.EventHours.{EventHours}
 
-abbrev pub no_hour : EventHour
-no_hour = record { event = 0; day = 0; hour = 0 }
-
 abbrev pub hours_listed : EventHours → List EventHour
 hours_listed x = take x.count x.hours
-
--- the entries past the last hour are zero
-abbrev pub RestZero : EventHours → Type 0
-RestZero x = drop x.count x.hours ≡ replicate (60 - x.count) no_hour
 
 -- an hour of an event that stands, of the season and the afternoon
 pub record Placed (s : Season) (p : EventHour) : Type 0 where

@@ -12,7 +12,7 @@ pub(crate) fn is_hours_outside(start: u32, length: u32) -> bool
     ensures is { result ≡ hours_outside start length }
     ensures tells { result ≡ false → (14 ≤ start) × (start + length ≤ 20) × (length ≤ 4) }
 {
-    length < 2 || length > 4 || start < 14 || start > 20 - length
+    !(2..=4).contains(&length) || start < 14 || start > 20 - length
 }
 
 // It is announced from 180 to 60 minutes before its start.
@@ -21,27 +21,21 @@ pub(crate) fn is_notice_outside(moment: u32, start: u32) -> bool
     ensures { result ≡ notice_outside moment start }
 {
     let minute = moment % 1440;
-    minute + 180 < 60 * start || 60 * start < minute + 60
+    !(minute + 60..=minute + 180).contains(&(60 * start))
 }
 
 // An event was announced for the day, and may have been revoked since.
 pub(crate) fn is_announced(day: Day) -> bool
     ensures { result ≡ spec.announced day }
 {
-    match day {
-        Day::NoEvent => false,
-        Day::Standing(_) | Day::Revoked(_) => true,
-    }
+    !matches!(day, Day::NoEvent)
 }
 
 // An event stands on the day.
 pub(crate) fn stands(day: Day) -> bool
     ensures { result ≡ spec.stands day }
 {
-    match day {
-        Day::Standing(_) => true,
-        Day::NoEvent | Day::Revoked(_) => false,
-    }
+    matches!(day, Day::Standing(_))
 }
 
 // How many hours of a day stand.
@@ -74,10 +68,7 @@ impl EventTable {
     pub(crate) fn at(&self, day: u32) -> Day
         ensures { result ≡ spec.day_in self.now.days day }
     {
-        match self.days.get(day as usize) {
-            Some(held) => *held,
-            None => Day::NoEvent,
-        }
+        self.days.get(day as usize).copied().unwrap_or(Day::NoEvent)
     }
 
     pub(crate) fn put(&mut self, day: u32, held: Day)
@@ -92,13 +83,19 @@ impl EventTable {
         ensures is { result ≡ spec.announced_before self.now.days 76 }
         ensures within { result ≤ 76 }
     {
-        let mut found = 0;
-        for day in &self.days {
-            if is_announced(*day) {
-                found += 1;
-            }
-        }
-        found
+        self.days.iter().filter(|day| is_announced(**day)).count() as u32
+    }
+
+    // On how many of the first days an event stands.
+    pub(crate) fn standing_before(&self, days: u32) -> u32
+        requires { days ≤ 76 }
+        ensures is { result ≡ spec.standing_before self.now.days days }
+        ensures within { result ≤ days }
+    {
+        self.days[..days as usize]
+            .iter()
+            .filter(|day| stands(**day))
+            .count() as u32
     }
 
     // How many events stand.
@@ -106,38 +103,23 @@ impl EventTable {
         ensures is { result ≡ spec.standing_before self.now.days 76 }
         ensures within { result ≤ 76 }
     {
-        let mut found = 0;
-        for day in &self.days {
-            if stands(*day) {
-                found += 1;
-            }
-        }
-        found
+        self.standing_before(76)
     }
 
     // How many hours they have.
     pub(crate) fn standing_hours(&self) -> u32
-        ensures is { result ≡ spec.hours_before self.now.days 76 }
-        ensures within { result ≤ 19380 }
+        ensures { result ≡ spec.hours_before self.now.days 76 }
     {
-        let mut sum = 0;
-        for day in &self.days {
-            sum += u32::from(day_hours(*day));
-        }
-        sum
+        self.days.iter().map(|day| u32::from(day_hours(*day))).sum()
     }
 
     // How many of these lie in a week.
     pub(crate) fn hours_of_week(&self, year: u32, week: u32) -> u32
-        ensures is { result ≡ spec.week_hours_before year week self.now.days 76 }
-        ensures within { result ≤ 19380 }
+        ensures { result ≡ spec.week_hours_before year week self.now.days 76 }
     {
-        let mut sum = 0;
-        for day in 0..76 {
-            if week_of(year, day) == week {
-                sum += u32::from(day_hours(self.at(day)));
-            }
-        }
-        sum
+        (0..76)
+            .filter(|day| week_of(year, *day) == week)
+            .map(|day| u32::from(day_hours(self.at(day))))
+            .sum()
     }
 }

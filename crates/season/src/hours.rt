@@ -2,43 +2,39 @@
 ghost use Rattle.std.specs.Prelude.{◌≡◌, ◌+◌, ◌<◌, ◌≤◌, true, [], ◌∷◌, ◌++◌, map, length};
 ghost use Rattle.std.specs.List.{range_with_len};
 ghost use Rattle.tariff.specs.Events.{day_hours, event_hour, event_of, hours_on, stands};
-ghost use Rattle.season.specs.Hours.{RestZero, hours_listed};
+ghost use Rattle.season.specs.Rest.{RestZero};
 
 use tariff::season::{Day, Event, EventHour};
 
 // Up to 60 hours, of which the first `count` are used; the other entries are zero.
+// A fixed array, since reading a season is never refused for want of memory.
 #[derive(Clone, Copy)]
 pub struct EventHours {
     pub hours: [EventHour; 60],
     pub count: usize,
+    pub ghost cells: { length hours ≡ 60 },
+    pub ghost within: { count ≤ 60 },
+    pub ghost rest: { RestZero count hours },
 }
 
 impl EventHours {
+    ghost use Rattle.season.specs.Hours.{hours_listed};
+
     // No hours yet.
     pub(crate) fn new() -> EventHours
-        ensures none { result.count ≡ 0 }
-        ensures rest { RestZero result }
-        ensures cells { length result.hours ≡ 60 }
+        ensures { result.count ≡ 0 }
     {
-        let zero = EventHour {
-            event: 0,
-            day: 0,
-            hour: 0,
-        };
         EventHours {
-            hours: [zero; 60],
+            hours: [EventHour::default(); 60],
             count: 0,
         }
     }
 
     // Adds one hour at the end.
     fn push(&mut self, hour: EventHour)
-        requires room { self.old.count < 60 }
-        requires rest { RestZero self.old }
+        requires { self.old.count < 60 }
         ensures list { hours_listed self.new ≡ hours_listed self.old ++ (hour ∷ []) }
         ensures one { self.new.count ≡ self.old.count + 1 }
-        ensures rest { RestZero self.new }
-        ensures cells { length self.new.hours ≡ 60 }
     {
         self.hours[self.count] = hour;
         self.count += 1;
@@ -48,12 +44,8 @@ impl EventHours {
     fn push_event(&mut self, number: u8, day: u8, event: Event)
         requires room { self.old.count + event.length ≤ 60 }
         requires ends { event.start + event.length ≤ 24 }
-        requires rest { RestZero self.old }
-        requires cells { length self.old.hours ≡ 60 }
         ensures list { hours_listed self.new ≡ hours_listed self.old ++ map (event_hour number day) (range_with_len event.start event.length) }
         ensures more { self.new.count ≡ self.old.count + event.length }
-        ensures rest { RestZero self.new }
-        ensures cells { length self.new.hours ≡ 60 }
     {
         for hour in event.start..event.start + event.length {
             self.push(EventHour {
@@ -68,16 +60,11 @@ impl EventHours {
     pub(crate) fn push_day(&mut self, number: u8, day: u8, held: Day)
         requires room { self.old.count + day_hours held ≤ 60 }
         requires ends { stands held ≡ true → (event_of held).start + (event_of held).length ≤ 24 }
-        requires rest { RestZero self.old }
-        requires cells { length self.old.hours ≡ 60 }
         ensures list { hours_listed self.new ≡ hours_listed self.old ++ hours_on number day held }
         ensures more { self.new.count ≡ self.old.count + day_hours held }
-        ensures rest { RestZero self.new }
-        ensures cells { length self.new.hours ≡ 60 }
     {
-        match held {
-            Day::Standing(event) => self.push_event(number, day, event),
-            Day::NoEvent | Day::Revoked(_) => {}
+        if let Day::Standing(event) = held {
+            self.push_event(number, day, event);
         }
     }
 }

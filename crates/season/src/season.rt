@@ -1,7 +1,7 @@
 // The record of a season.
 ghost use Rattle.std.specs.Prelude.{◌≡◌, ◌≤◌, length};
 ghost use Rattle.tariff.specs.Events.{hours_before};
-ghost use Rattle.season.specs.Tables.{Blank, listed};
+ghost use Rattle.season.specs.Tables.{listed};
 ghost use Rattle.season.specs.Tests.{AllFit, AllWhole, WeeksHold};
 
 use crate::events::EventTable;
@@ -18,14 +18,12 @@ mod reads;
 #[derive(Clone, Copy, PartialEq, Eq)]
 pub struct Season {
     year: u32,
+    // also true where no season was ever opened, as the model has it, so that such a record refuses every call alike
     closed: bool,
     // the moment of the last accepted announcement or revocation
     clock: u32,
     sites: SiteTable,
     events: EventTable,
-    ghost room: { sites.count ≤ 64 },
-    ghost cells: { length sites.sites ≡ 64 },
-    ghost blank: { Blank sites },
     ghost whole: { AllWhole (listed sites) },
     ghost summer: { length events.days ≡ 76 },
     ghost fit: { AllFit year events.days },

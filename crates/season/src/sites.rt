@@ -1,20 +1,20 @@
 // The sites of a season, in the order of their enrolment.
-ghost use Rattle.std.specs.Prelude.{◌≡◌, ◌+◌, ◌-◌, ◌<◌, ◌≤◌, [], ◌∷◌, ◌++◌, length, take, replicate, slice_index_or, slice_set};
+ghost use Rattle.std.specs.Prelude.{◌≡◌, ◌+◌, ◌-◌, ◌<◌, ◌≤◌, ◌&&◌, [], ◌∷◌, ◌++◌, length, nat_le, nat_lt, slice_index_or, slice_set, if◌then◌else◌, Some, None};
 ghost use Rattle.tariff.specs.Calls.{figure_outside};
 ghost use Rattle.tariff.specs.Kinds as kinds;
 ghost use Rattle.tariff.specs.Season.{enrolled_site, no_site, nominated_site};
-ghost use Rattle.season.specs.Tables.{Blank, listed};
+ghost use Rattle.season.specs.Blank.{Blank};
 
 use tariff::season::{Kind, Site};
 
-// The kind that a number stands for: 0 is a single site, and any other number an aggregated one.
-pub(crate) fn kind_of(number: u32) -> Kind
-    ensures { result ≡ kinds.kind_of number }
+// The kind that a number stands for, where it stands for one.
+pub(crate) fn kind_from(number: u32) -> Option<Kind>
+    ensures { result ≡ (if nat_lt 1 number then None else Some (kinds.kind_of number)) }
 {
-    if number == 0 {
-        Kind::Single
-    } else {
-        Kind::Aggregated
+    match number {
+        0 => Some(Kind::Single),
+        1 => Some(Kind::Aggregated),
+        _ => None,
     }
 }
 
@@ -32,15 +32,7 @@ fn least_kw(kind: Kind) -> u32
 pub(crate) fn is_figure_outside(kind: Kind, kw: u32) -> bool
     ensures { result ≡ figure_outside kind kw }
 {
-    kw < least_kw(kind) || kw > 100_000
-}
-
-// Puts a figure into a week, counted from 0, and all later weeks.
-fn fill_from(weeks: &mut [u32], first: usize, kw: u32)
-    requires { first ≤ length weeks.old }
-    ensures { weeks.new ≡ take first weeks.old ++ replicate (length weeks.old - first) kw }
-{
-    weeks[first..].fill(kw);
+    !(least_kw(kind)..=100_000).contains(&kw)
 }
 
 // Takes a site's figure for a week, counted from 1, and for all later weeks.
@@ -49,22 +41,26 @@ fn take_figure(site: &mut Site, week: u32, kw: u32)
     ensures { site.new ≡ nominated_site site.old week kw }
 {
     site.highest = site.highest.max(kw);
-    fill_from(&mut site.weeks, week as usize - 1, kw);
+    site.weeks[week as usize - 1..].fill(kw);
 }
 
 // Room for 64 sites, of which the first `count` are enrolled; the other cells are blank.
+// A fixed array, since no call of a season is refused for want of memory.
 #[derive(Clone, Copy, PartialEq, Eq)]
 pub struct SiteTable {
     pub count: u8,
     pub sites: [Site; 64],
+    ghost room: { count ≤ 64 },
+    ghost cells: { length sites ≡ 64 },
+    ghost blank: { Blank count sites },
 }
 
 impl SiteTable {
+    ghost use Rattle.season.specs.Tables.{listed};
+
     // A table with no site.
     pub(crate) fn new() -> SiteTable
-        ensures none { result.count ≡ 0 }
-        ensures blank { Blank result }
-        ensures cells { length result.sites ≡ 64 }
+        ensures { result.count ≡ 0 }
     {
         let blank = Site {
             kind: Kind::Single,
@@ -79,7 +75,6 @@ impl SiteTable {
 
     // How many sites are enrolled.
     pub(crate) fn len(&self) -> u32
-        requires { self.now.count ≤ 64 }
         ensures is { result ≡ length (listed self.now) }
         ensures counted { result ≡ self.now.count }
     {
@@ -88,29 +83,25 @@ impl SiteTable {
 
     // The enrolled sites.
     fn enrolled(&self) -> &[Site]
-        requires { self.now.count ≤ 64 }
         ensures is { result.now ≡ listed self.now }
         ensures long { length result.now ≡ self.now.count }
     {
-        &self.sites[0..self.count as usize]
+        &self.sites[..self.count as usize]
     }
 
-    // The site of a number, counted from 1.
-    pub(crate) fn at(&self, number: u32) -> Site
-        requires { (self.now.count ≤ 64) × ((1 ≤ number) × (number ≤ self.now.count)) }
-        ensures { result ≡ slice_index_or (listed self.now) (number - 1) no_site }
+    // The site of a number, counted from 1, where there is one.
+    pub(crate) fn at(&self, number: u32) -> Option<Site>
+        ensures { result ≡ (if nat_le 1 number && nat_le number (length (listed self.now)) then Some (slice_index_or (listed self.now) (number - 1) no_site) else None) }
     {
-        self.sites[number as usize - 1]
+        let place = number.checked_sub(1)?;
+        self.enrolled().get(place as usize).copied()
     }
 
     // One site more, with one figure for all weeks.
     pub(crate) fn enrol(&mut self, kind: Kind, kw: u32)
-        requires room { self.old.count < 64 }
-        requires blank { Blank self.old }
+        requires { self.old.count < 64 }
         ensures list { listed self.new ≡ listed self.old ++ (enrolled_site kind kw ∷ []) }
         ensures one { self.new.count ≡ self.old.count + 1 }
-        ensures blank { Blank self.new }
-        ensures cells { length self.new.sites ≡ 64 }
     {
         self.sites[self.count as usize] = Site {
             kind,
@@ -122,13 +113,10 @@ impl SiteTable {
 
     // A figure of one site, for a week and all later weeks; sites and weeks are counted from 1.
     pub(crate) fn nominate(&mut self, number: u32, week: u32, kw: u32)
-        requires site { (self.old.count ≤ 64) × ((1 ≤ number) × (number ≤ self.old.count)) }
+        requires site { (1 ≤ number) × (number ≤ self.old.count) }
         requires week { (1 ≤ week) × (week ≤ 10) }
-        requires blank { Blank self.old }
         ensures list { listed self.new ≡ slice_set (listed self.old) (number - 1) (nominated_site (slice_index_or (listed self.old) (number - 1) no_site) week kw) }
         ensures same { self.new.count ≡ self.old.count }
-        ensures blank { Blank self.new }
-        ensures cells { length self.new.sites ≡ 64 }
     {
         let site = &mut self.sites[number as usize - 1];
         take_figure(site, week, kw);

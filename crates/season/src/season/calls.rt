@@ -8,7 +8,7 @@ ghost use Rattle.season.specs.View.{view};
 
 use super::Season;
 use crate::events::EventTable;
-use crate::sites::{SiteTable, kind_of};
+use crate::sites::SiteTable;
 use calendar::last_week;
 use tariff::call::SeasonRefusal;
 use tariff::season::{Day, Event};
@@ -33,7 +33,7 @@ impl Season {
         ensures after { view self.new ≡ spec.after_open (view self.old) year result }
         ensures kept { OnErr result (self.new ≡ self.old) }
     {
-        if year < 2015 || year > 2099 {
+        if !(2015..=2099).contains(&year) {
             return Err(SeasonRefusal::YearOutside);
         }
         self.year = year;
@@ -50,9 +50,9 @@ impl Season {
         ensures after { view self.new ≡ spec.after (view self.old) (Enrol moment kind kw) (spec.as_answer SiteNumber result) }
         ensures kept { OnErr result (self.new ≡ self.old) }
     {
-        let number = self.enrol_answer(moment, kind, kw)?;
-        self.sites.enrol(kind_of(kind), kw);
-        Ok(number)
+        let kind = self.kind_to_enrol(moment, kind, kw)?;
+        self.sites.enrol(kind, kw);
+        Ok(self.sites.len())
     }
 
     // Takes a site's figure in kW for a week and all later weeks, and answers the week.

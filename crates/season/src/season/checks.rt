@@ -1,17 +1,18 @@
 // The checks of each call in their order: what it will answer, or why it is refused.
-ghost use Rattle.std.specs.Prelude.{◌≡◌, ◌+◌, ◌<◌, ◌≤◌, [], IfOk, Ok, Err, MatchResult, OnOk};
+ghost use Rattle.std.specs.Prelude.{◌≡◌, ◌+◌, ◌<◌, ◌≤◌, [], length, IfOk, Ok, Err, MatchResult, OnOk};
 ghost use Rattle.tariff.specs.Calendar.{day_of};
 ghost use Rattle.tariff.specs.Calls as spec;
 ghost use Rattle.tariff.specs.Events.{event_of};
+ghost use Rattle.tariff.specs.Kinds.{kind_of};
 ghost use Rattle.tariff.specs.Season.{day_at};
 ghost use Rattle.season.specs.View.{view};
 
 use super::Season;
 use crate::events::{is_announced, is_hours_outside, is_notice_outside};
-use crate::sites::{is_figure_outside, kind_of};
+use crate::sites::{is_figure_outside, kind_from};
 use calendar::{business, deadline, in_season, last_week, week_of};
 use tariff::call::SeasonRefusal;
-use tariff::season::{Day, Event};
+use tariff::season::{Day, Event, Kind};
 
 impl Season {
     // The season takes calls, and the moment lies in the summer and not before the clock.
@@ -30,22 +31,28 @@ impl Season {
         }
     }
 
-    pub(super) fn enrol_answer(&self, moment: u32, kind: u32, kw: u32) -> Result<u32, SeasonRefusal>
-        ensures is { result ≡ spec.enrol_answer (view self.now) moment kind kw }
-        ensures room { OnOk result (self.now.sites.count < 64) }
+    // The kind of a site that may be enrolled.
+    pub(super) fn kind_to_enrol(
+        &self,
+        moment: u32,
+        kind: u32,
+        kw: u32,
+    ) -> Result<Kind, SeasonRefusal>
+        ensures is { MatchResult result (λ _. spec.enrol_answer (view self.now) moment kind kw ≡ Ok (length (view self.now).sites + 1)) (λ x. spec.enrol_answer (view self.now) moment kind kw ≡ Err x) }
+        ensures kind { IfOk result (λ k. (k ≡ kind_of kind) × (self.now.sites.count < 64)) }
     {
         self.check_moment(moment)?;
         if moment >= 20_160 {
-            Err(SeasonRefusal::EnrolmentTooLate)
-        } else if kind > 1 {
-            Err(SeasonRefusal::NoSuchKind)
-        } else if self.sites.len() >= 64 {
-            Err(SeasonRefusal::SitesFull)
-        } else if is_figure_outside(kind_of(kind), kw) {
-            Err(SeasonRefusal::FigureOutside)
-        } else {
-            Ok(self.sites.len() + 1)
+            return Err(SeasonRefusal::EnrolmentTooLate);
         }
+        let kind = kind_from(kind).ok_or(SeasonRefusal::NoSuchKind)?;
+        if self.sites.len() >= 64 {
+            return Err(SeasonRefusal::SitesFull);
+        }
+        if is_figure_outside(kind, kw) {
+            return Err(SeasonRefusal::FigureOutside);
+        }
+        Ok(kind)
     }
 
     pub(super) fn nominate_answer(
@@ -59,16 +66,13 @@ impl Season {
         ensures within { IfOk result (λ w. (1 ≤ site) × (site ≤ self.now.sites.count) × (w ≡ week) × (1 ≤ week) × (week ≤ 10)) }
     {
         self.check_moment(moment)?;
-        if site == 0 || site > self.sites.len() {
-            return Err(SeasonRefusal::NoSuchSite);
-        }
-        if week == 0 || week > last_week(self.year) {
+        let held = self.sites.at(site).ok_or(SeasonRefusal::NoSuchSite)?;
+        if !(1..=last_week(self.year)).contains(&week) {
             return Err(SeasonRefusal::NoSuchWeek);
         }
         if u64::from(moment) > deadline(self.year, week) {
             return Err(SeasonRefusal::NominationTooLate);
         }
-        let held = self.sites.at(site);
         if is_figure_outside(held.kind, kw) {
             return Err(SeasonRefusal::FigureOutside);
         }

@@ -35,23 +35,22 @@ impl Season {
         ensures kept { OnErr result (self.new ≡ self.old) }
     {
         match call {
-            Call::Enrol { moment, kind, kw } => Ok(Answer::Site(self.enrol(moment, kind, kw)?)),
+            Call::Enrol { moment, kind, kw } => self.enrol(moment, kind, kw).map(Answer::Site),
             Call::Nominate {
                 moment,
                 site,
                 week,
                 kw,
-            } => Ok(Answer::Week(self.nominate(moment, site, week, kw)?)),
+            } => self.nominate(moment, site, week, kw).map(Answer::Week),
             Call::Announce {
                 moment,
                 start,
                 length,
-            } => Ok(Answer::Announced(self.announce(moment, start, length)?)),
-            Call::Revoke { moment } => Ok(Answer::Revoked(self.revoke(moment)?)),
-            Call::Close => {
-                let (events, hours) = self.close()?;
-                Ok(Answer::Closed(events, hours))
-            }
+            } => self.announce(moment, start, length).map(Answer::Announced),
+            Call::Revoke { moment } => self.revoke(moment).map(Answer::Revoked),
+            Call::Close => self
+                .close()
+                .map(|(events, hours)| Answer::Closed(events, hours)),
         }
     }
 

@@ -1,14 +1,14 @@
 // What a season's baselines are measured from: the hours of its standing events, and the days that an event is compared with.
 ghost use Rattle.std.specs.Prelude.{◌≡◌, ◌<◌, ◌≤◌, true, length, IfSome, if◌then◌else◌, Some, None};
 ghost use Rattle.std.specs.List.{AllByRecursion};
+ghost use Rattle.std.specs.Option.{option_to_list};
 ghost use Rattle.tariff.specs.Comparison as spec;
 ghost use Rattle.tariff.specs.Events.{event_hours_before};
 ghost use Rattle.tariff.specs.Season as model;
-ghost use Rattle.season.specs.Hours.{Placed, RestZero, hours_listed};
+ghost use Rattle.season.specs.Hours.{Placed, hours_listed};
 ghost use Rattle.season.specs.View.{view};
 
 use super::Season;
-use crate::events::stands;
 use crate::hours::EventHours;
 use tariff::season::Day;
 
@@ -18,18 +18,13 @@ impl Season {
         requires { days ≤ 76 }
         ensures is { hours_listed result ≡ event_hours_before (view self.now).days days }
         ensures counted { result.count ≡ length (event_hours_before (view self.now).days days) }
-        ensures rest { RestZero result }
-        ensures within { result.count ≤ 60 }
         ensures placed { AllByRecursion (Placed (view self.now)) (hours_listed result) }
     {
         let mut hours = EventHours::new();
-        let mut numbered = 0;
+        // by the day's number, since each hour tells it and the event's number follows from it
         for day in 0..days {
-            let held = self.day(u32::from(day));
-            hours.push_day(numbered + 1, day, held);
-            if stands(held) {
-                numbered += 1;
-            }
+            let number = self.events.standing_before(u32::from(day)) as u8 + 1;
+            hours.push_day(number, day, self.day(u32::from(day)));
         }
         hours
     }
@@ -38,14 +33,19 @@ impl Season {
     pub fn event_hours(&self) -> EventHours
         ensures is { hours_listed result ≡ model.season_event_hours (view self.now) }
         ensures counted { result.count ≡ length (model.season_event_hours (view self.now)) }
-        ensures rest { RestZero result }
-        ensures within { result.count ≤ 60 }
         ensures placed { AllByRecursion (Placed (view self.now)) (hours_listed result) }
     {
         self.hours_before(76)
     }
 
-    // The ten latest comparable days before the day of a standing event, the latest first.
+    // The latest comparable day before a day, where there is one.
+    fn latest_comparable(&self, before: u32) -> Option<u32>
+        ensures { option_to_list result ≡ spec.latest (spec.comparable (view self.now)) 1 before }
+    {
+        (0..before).rev().find(|day| self.comparable(*day))
+    }
+
+    // The ten latest comparable days before the day of a standing event, the latest first. There are always ten.
     fn ten_latest(&self, day: u32) -> [u8; 10]
         requires stands { model.standing (view self.now) day ≡ true }
         requires within { day ≤ 75 }
@@ -53,12 +53,10 @@ impl Season {
         ensures before { AllByRecursion (λ k. k < day) result }
     {
         let mut days = [0; 10];
-        let mut count = 0;
-        for k in (0..day).rev() {
-            if count < 10 && self.comparable(k) {
-                days[count] = k as u8;
-                count += 1;
-            }
+        let mut before = day;
+        for slot in &mut days {
+            before = self.latest_comparable(before).unwrap();
+            *slot = before as u8;
         }
         days
     }

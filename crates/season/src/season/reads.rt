@@ -53,11 +53,7 @@ impl Season {
         ensures is { result ≡ (if model.has_site (view self.now) number then Some (model.site_at (view self.now) number) else None) }
     {
         self.sites_stay_whole(number);
-        if number >= 1 && number <= self.sites.len() {
-            Some(self.sites.at(number))
-        } else {
-            None
-        }
+        self.sites.at(number)
     }
 
     // What a day of the summer holds; past the summer there is no event. An announced event fits its day.

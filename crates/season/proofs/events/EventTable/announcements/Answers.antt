@@ -1,9 +1,11 @@
-use Rattle.std.proofs.Common.{rules}
-use Rattle.tariff.proofs.EventHours.{announced_none, announced_more}
+use Rattle.std.proofs.Common.{◌≡◌, ap, ◌∙◌, arith, rules}
+use Rattle.std.specs.List.{count_by}
+use Rattle.tariff.specs.Events.{announced, announced_before}
+use Rattle.season.proofs.Days.{announced_in}
 use Rattle.season.proofs.events.EventTable.announcements.Goals as goal
 
-pub loop-day-init : goal.loop-day-init
-loop-day-init c = search (rules, announced_none)
-
-pub loop-day-preserved : goal.loop-day-preserved
-loop-day-preserved c = search (rules, announced_more)
+pub returns-clause-is : goal.returns-clause-is
+returns-clause-is c =
+    let days = c.args.self.now.days in
+    let counted : c.count.result ≡ count_by announced days = search rules in
+    counted ∙ announced_in days ∙ ap (announced_before days) (omega arith)

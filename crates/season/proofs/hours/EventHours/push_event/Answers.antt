@@ -6,7 +6,7 @@ use Rattle.tariff.specs.Events.{event_hour}
 use Rattle.season.proofs.hours.EventHours.push_event.Goals as goal
 
 pub loop-hour-init : goal.loop-hour-init
-loop-hour-init c = (omega arith, listed_none _ _ c.args.event.start _ (omega arith), c.requires.rest, c.requires.cells)
+loop-hour-init c = (omega arith, listed_none _ _ c.args.event.start _ (omega arith))
 
 pub loop-hour-preserved : goal.loop-hour-preserved
 loop-hour-preserved c =
@@ -14,8 +14,6 @@ loop-hour-preserved c =
       omega arith,
       c.push.ensures.list
           ∙ listed_more (event_hour c.args.number c.args.day) (hours_listed c.args.self.now) _ c.args.event.start c.loop-hour.hour (omega arith) inv.1,
-      c.push.ensures.rest,
-      c.push.ensures.cells,
     )
 
 pub returns : goal.returns
@@ -25,6 +23,4 @@ returns c =
     record {
       list = inv.1 ∙ ap (λ n. hours_listed c.args.self.now ++ map (event_hour c.args.number c.args.day) (range_with_len c.args.event.start n)) end;
       more = omega arith;
-      rest = inv.2;
-      cells = inv.3;
     }

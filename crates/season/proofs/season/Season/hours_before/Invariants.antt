@@ -1,11 +1,11 @@
-use Rattle.std.proofs.Common.{◌≡◌, ◌≤◌, length}
-use Rattle.tariff.specs.Events.{event_hours_before, hours_before, standing_before}
-use Rattle.season.specs.Hours.{RestZero, hours_listed}
+use Rattle.std.proofs.Common.{◌≡◌}
+use Rattle.tariff.specs.Events.{event_hours_before, hours_before}
+use Rattle.season.specs.Hours.{hours_listed}
 use Rattle.season.proofs.season.Season.hours_before.Given as goal
 
 abbrev pub invariant-loop-day : goal.invariant-loop-day
 invariant-loop-day l =
-    (l.numbered ≤ l.day) × (l.numbered ≡ standing_before l.self.events.days l.day)
-    × (l.hours.count ≡ hours_before l.self.events.days l.day)
-    × (hours_listed l.hours ≡ event_hours_before l.self.events.days l.day)
-    × RestZero l.hours × (length l.hours.hours ≡ 60)
+    record {
+      counted : l.hours.count ≡ hours_before l.self.events.days l.day;
+      listed : hours_listed l.hours ≡ event_hours_before l.self.events.days l.day;
+    }

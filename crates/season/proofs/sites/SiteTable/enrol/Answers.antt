@@ -1,15 +1,20 @@
-use Rattle.std.proofs.Common.{◌<◌, length, refl, arith, length-set}
+use Rattle.std.proofs.Common.{◌<◌, length, arith, length-set}
 use Rattle.std.proofs.lemmas.List.{take_more_set}
 use Rattle.tariff.specs.Season.{enrolled_site}
 use Rattle.season.proofs.Tables.{blank_more}
 use Rattle.season.proofs.sites.SiteTable.enrol.Goals as goal
 
-pub returns : goal.returns
-returns c =
-    let lt : c.args.self.now.count < length c.args.self.now.sites = omega arith in
+pub invariant_of-self : goal.invariant_of-self
+invariant_of-self c =
+    let s = c.args.self.now in
     record {
-      list = take_more_set _ _ _ lt;
-      one = refl;
-      blank = blank_more c.args.self.now.count c.args.self.now.sites (enrolled_site c.args.kind c.args.kw) c.requires.blank;
-      cells = simp length-set (omega arith);
+      room = omega arith;
+      cells = simp length-set s.cells;
+      blank = blank_more s.count s.sites (enrolled_site c.args.kind c.args.kw) s.blank;
     }
+
+pub returns-clause-list : goal.returns-clause-list
+returns-clause-list c =
+    let s = c.args.self.now in
+    let lt : s.count < length s.sites = omega (arith, s.cells) in
+    take_more_set _ _ _ lt

@@ -1,7 +1,7 @@
-use Rattle.std.proofs.Common.{refl}
-use Rattle.season.specs.Tables.{zeros, blanks}
+use Rattle.std.proofs.Common.{refl, arith}
+use Rattle.season.specs.Blank.{zeros, blanks}
 use Rattle.season.proofs.sites.SiteTable.new.Goals as goal
 
-pub returns : goal.returns
+pub invariant_of-result : goal.invariant_of-result
 unfolding zeros blanks
-returns c = record { none = refl; blank = refl; cells = refl }
+invariant_of-result c = record { room = omega arith; cells = refl; blank = refl }
