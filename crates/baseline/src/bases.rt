@@ -2,6 +2,8 @@ ghost use Rattle.std.specs.Prelude.{◌≡◌, ℕ, ◌<◌, ◌≤◌, [], slic
 ghost use Rattle.baseline.specs.Days.{Small};
 ghost use Rattle.baseline.specs.Sums.{«sum_at», «bases_of»};
 
+use std::array;
+
 // What the days at three places drew together in an hour.
 fn base_at(days: &[[u32; 24]; 10], places: [usize; 3], hour: usize) -> u64
     requires places { (k : ℕ) → k < 3 → slice_index places k < 10 }
@@ -11,7 +13,7 @@ fn base_at(days: &[[u32; 24]; 10], places: [usize; 3], hour: usize) -> u64
     ensures bound { result ≤ 300000000 }
 {
     let [a, b, c] = places;
-    days[a][hour] as u64 + days[b][hour] as u64 + days[c][hour] as u64
+    u64::from(days[a][hour]) + u64::from(days[b][hour]) + u64::from(days[c][hour])
 }
 
 // The same for each hour of the day.
@@ -21,9 +23,5 @@ pub(crate) fn bases(days: &[[u32; 24]; 10], places: [usize; 3]) -> [u64; 24]
     ensures value { result ≡ bases_of days.now places }
     ensures bound { (h : ℕ) → h < 24 → slice_index result h ≤ 300000000 }
 {
-    let mut sums = [0; 24];
-    for hour in 0..24 {
-        sums[hour] = base_at(days, places, hour);
-    }
-    sums
+    array::from_fn(|hour| base_at(days, places, hour))
 }
