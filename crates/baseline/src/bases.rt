@@ -1,6 +1,6 @@
 ghost use Rattle.std.specs.Prelude.{◌≡◌, ℕ, ◌<◌, ◌≤◌, [], slice_index, slice_index_or};
 ghost use Rattle.baseline.specs.Days.{Small};
-ghost use Rattle.baseline.specs.Sums.{«sum_at», «bases_of»};
+ghost use Rattle.baseline.specs.Sums.{«sum_at», «bases_of», SmallBases};
 
 use std::array;
 
@@ -21,7 +21,7 @@ pub(crate) fn bases(days: &[[u32; 24]; 10], places: [usize; 3]) -> [u64; 24]
     requires places { (k : ℕ) → k < 3 → slice_index places k < 10 }
     requires small { (k : ℕ) → k < 10 → Small (slice_index_or days.now k []) }
     ensures value { result ≡ bases_of days.now places }
-    ensures bound { (h : ℕ) → h < 24 → slice_index result h ≤ 300000000 }
+    ensures bound { SmallBases result }
 {
     array::from_fn(|hour| base_at(days, places, hour))
 }
