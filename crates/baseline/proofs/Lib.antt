@@ -1,6 +1,5 @@
 pub mod Threes
 pub mod Tops
-pub mod Within
 pub mod FirstSome
 pub mod DayReads
 pub mod TenDays

@@ -1,9 +1,9 @@
 -- Events measured from the loads that were read are measured as the tariff says.
-use Rattle.std.proofs.Common.{◌≡◌, ℕ, ◌+◌, ◌-◌, ◌<◌, ◌≤◌, List, [], ◌∷◌, ◌++◌, map, length, get_or, take, set, replicate, Some, None, Ok, Err, Result, sym, refl, ap, ◌∙◌, ap₂, arith}
+use Rattle.std.proofs.Common.{◌≡◌, ℕ, zero, suc, ◌+◌, ◌-◌, ◌<◌, ◌≤◌, List, [], ◌∷◌, ◌++◌, map, length, get_or, take, replicate, Some, None, Ok, Err, Result, sym, refl, ap, ◌∙◌, ap₂, inl, inr, arith, length-append}
 use Rattle.std.specs.List.{range_with_len, AllByRecursion}
-use Rattle.std.proofs.lemmas.List.FromFn.{length-range_with_len, get_or-range_with_len, length-map-range_with_len, map-range_with_len_more}
-use Rattle.std.proofs.ByRecursion.{All-get_or}
-use Rattle.std.proofs.lemmas.List.{get_or-map, take_at}
+use Rattle.std.proofs.lemmas.Bool.{cases_lt, cond-true, cond-false, lt-ltb, le-ltb}
+use Rattle.std.proofs.lemmas.List.FromFn.{length-range_with_len, get_or-range_with_len, length-map-range_with_len, get_or-map-range_with_len}
+use Rattle.std.proofs.lemmas.List.{ext_get_or, get_or-map, get_or_past, length-replicate, take_at}
 use Rattle.tariff.specs.Baseline.{base_of}
 use Rattle.tariff.specs.Faults.{or_else, day_fault, comparison_fault, fault_over}
 use Rattle.tariff.specs.Measure.{adjusted_of, reduction_of, measured_of}
@@ -12,14 +12,13 @@ use Rattle.tariff.specs.Tables.{Table}
 use Rattle.tariff.specs.declared.fault.BaselineFault.{BaselineFault}
 use Rattle.tariff.specs.declared.fault.Use.TheVariants.{EventDay}
 use Rattle.tariff.specs.declared.statement.MeasuredHour.{MeasuredHour}
-use Rattle.tariff.proofs.Pointwise.{filled_more}
 use Rattle.tariff.proofs.Ranking.{all_counting}
 use Rattle.baseline.specs.declared.loads.EventLoads.{EventLoads}
 use Rattle.baseline.specs.declared.original.OriginalBaseline.{OriginalBaseline}
 use Rattle.baseline.specs.declared.span.EventSpan.{EventSpan}
 use Rattle.baseline.specs.Days.{day_read, day_loads, fault_or}
 use Rattle.baseline.specs.Original.{original_of, original_read}
-use Rattle.baseline.specs.Measuring.{no_measured, hour_of, span_hours, event_of_hours, event_measured, loads_of, loads_read, adjusted_in, measured_in, event_from, MeasuredFromLoads, Bounded}
+use Rattle.baseline.specs.Measuring.{no_measured, hour_of, span_hours, event_of_hours, event_measured, loads_of, loads_read, adjusted_in, measured_in, entry_from, event_from, MeasuredFromLoads}
 use Rattle.baseline.proofs.TenDays.{fault_none, fault_some, read_whole, read_gap}
 use Rattle.baseline.proofs.Shown.{loads_at}
 
@@ -99,46 +98,44 @@ module _ (t : Table) (days : List ℕ) (e : EventSpan) where
 
 -- ---- an event's hours, one by one
 
--- bounds of one hour
-abbrev pub Fair : MeasuredHour → Type 0
-Fair m = (m.reduction ≤ 120000000) × (m.shortfall ≤ 4294967295000)
-
 map_map : {X Y Z : Type 0} (f : Y → Z) (g : X → Y) (xs : List X) → map (λ x. f (g x)) xs ≡ map f (map g xs)
 map_map f g [] = refl
 map_map f g (x ∷ xs) = ap (λ zs. f (g x) ∷ zs) (map_map f g xs)
+
+-- a list brought to n entries has its own, and then the entry that is not used
+filled_has : {X : Type 0} (d : X) (xs : List X) (m k : ℕ) → get_or (xs ++ replicate m d) k d ≡ get_or xs k d
+filled_has d [] zero k = refl
+filled_has d [] (suc m) zero = refl
+filled_has d [] (suc m) (suc k) = filled_has d [] m k
+filled_has d (x ∷ xs) m zero = refl
+filled_has d (x ∷ xs) m (suc k) = filled_has d xs m k
 
 module _ (x : EventLoads) (e : EventSpan) (nominated : ℕ) where
   abbrev hour_at : ℕ → MeasuredHour
   hour_at h = measured_in x e.notice nominated (hour_of e h)
 
-  -- the hours of an event so far
-  unfoldable pub so_far : ℕ → List MeasuredHour
-  so_far k = filled no_measured 4 (map hour_at (range_with_len e.start k))
+  hour_of_range : (k : ℕ) → get_or (map hour_at (range_with_len e.start e.length)) k no_measured ≡ entry_from x e nominated k
+  unfolding entry_from
+  hour_of_range k =
+      let long : length (map hour_at (range_with_len e.start e.length)) ≡ e.length = length-map-range_with_len hour_at e.start e.length in
+      elim (cases_lt k e.length) [
+        | inl l ↦ get_or-map-range_with_len hour_at e.start e.length k (e.start + k) no_measured l refl ∙ sym (cond-true _ _ _ (lt-ltb k e.length l))
+        | inr g ↦ get_or_past _ k no_measured (omega arith) ∙ sym (cond-false _ _ _ (le-ltb k e.length g))
+      ]
 
-  pub so_far_none : no_measured ∷ no_measured ∷ no_measured ∷ no_measured ∷ [] ≡ so_far 0
-  unfolding so_far
-  so_far_none = refl
+  -- four entries are the event's record
+  module _ (hours : List MeasuredHour) (long : length hours ≡ 4) (four : e.length ≤ 4) (each : (k : ℕ) → k < 4 → get_or hours k no_measured ≡ entry_from x e nominated k) where
+    abbrev all : List MeasuredHour
+    all = map (measured_in x e.notice nominated) (span_hours e)
 
-  pub so_far_more : (k : ℕ) (y : MeasuredHour) → k < 4 → y ≡ measured_in x e.notice nominated (hour_of e (e.start + k)) → set (so_far k) k y ≡ so_far (k + 1)
-  unfolding so_far
-  so_far_more k y l q =
-      let xs : List MeasuredHour = map hour_at (range_with_len e.start k) in
-      filled_more no_measured 4 k xs y (length-map-range_with_len hour_at e.start k) l ∙ ap (λ z. filled no_measured 4 (xs ++ z ∷ [])) q ∙ ap (filled no_measured 4) (sym (map-range_with_len_more hour_at e.start k (e.start + k) refl))
-
-  pub so_far_all : (hours : List MeasuredHour) → hours ≡ so_far e.length → record { hours = hours; count = e.length } ≡ event_from x e nominated
-  unfolding so_far event_from
-  so_far_all hours q =
-      let all : List MeasuredHour = map (measured_in x e.notice nominated) (span_hours e) in
-      let same : map hour_at (range_with_len e.start e.length) ≡ all = map_map (measured_in x e.notice nominated) (hour_of e) (range_with_len e.start e.length) in
-      let long : length all ≡ e.length = ap length (sym same) ∙ length-map-range_with_len hour_at e.start e.length in
-      ap₂ (λ (hs : List MeasuredHour) (n : ℕ). record { hours = hs; count = n }) (q ∙ ap (filled no_measured 4) same) (sym long)
-
-pub bounds_of : (hours : List MeasuredHour) (n : ℕ) → n ≤ 4 → length hours ≡ 4 → AllByRecursion Fair hours → Bounded (record { hours = hours; count = n })
-bounds_of hours n l long fair = record {
-  within = l;
-  reduced = λ k h. (All-get_or Fair hours k no_measured (omega arith) fair).0;
-  short = λ k h. (All-get_or Fair hours k no_measured (omega arith) fair).1;
-}
+    pub event_told : record { hours = hours; count = e.length } ≡ event_from x e nominated
+    unfolding event_from
+    event_told =
+        let same : map hour_at (range_with_len e.start e.length) ≡ all = map_map (measured_in x e.notice nominated) (hour_of e) (range_with_len e.start e.length) in
+        let count : length all ≡ e.length = ap length (sym same) ∙ length-map-range_with_len hour_at e.start e.length in
+        let entry : (k : ℕ) → entry_from x e nominated k ≡ get_or all k no_measured = λ k. sym (hour_of_range k) ∙ ap (λ ys. get_or ys k no_measured) same in
+        let whole : hours ≡ filled no_measured 4 all = ext_get_or no_measured hours (filled no_measured 4 all) (omega (arith, length-append all (replicate (4 - length all) no_measured), length-replicate (4 - length all) no_measured)) (λ k l. each k (omega arith) ∙ entry k ∙ sym (filled_has no_measured all (4 - length all) k)) in
+        ap₂ (λ (hs : List MeasuredHour) (n : ℕ). record { hours = hs; count = n }) whole (sym count)
 
 -- the hours of an event's record, without the entries that are not used
 pub hours_back : (hours : List MeasuredHour) → take (event_of_hours hours).count (event_of_hours hours).hours ≡ hours

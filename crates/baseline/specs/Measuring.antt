@@ -1,5 +1,5 @@
 -- What is measured in the hours of an event, by the tariff, and from the loads that were read.
-use Rattle.std.specs.Prelude.{◌≡◌, ℕ, ◌-◌, ◌<◌, ◌≤◌, List, map, length, Ok, Err, Result, slice_index, slice_index_or}
+use Rattle.std.specs.Prelude.{◌≡◌, ℕ, ◌+◌, ◌-◌, ◌<◌, ◌≤◌, cond, nat_lt, List, map, length, Ok, Err, Result, slice_index, slice_index_or}
 use Rattle.std.specs.List.{range_with_len}
 use Rattle.tariff.specs.Baseline.{base_of}
 use Rattle.tariff.specs.Events.{event_hour}
@@ -67,6 +67,10 @@ measured_in x n nominated p =
       shortfall = shortfall_of nominated (reduction_in x n p.hour);
     }
 
+-- the k-th entry of an event's record: what is measured in its k-th hour, or the entry that is not used
+unfoldable pub entry_from : EventLoads → EventSpan → ℕ → ℕ → MeasuredHour
+entry_from x e nominated k = cond (nat_lt k e.length) (measured_in x e.notice nominated (hour_of e (e.start + k))) no_measured
+
 -- in each hour of an event
 unfoldable pub event_from : EventLoads → EventSpan → ℕ → MeasuredEvent
 event_from x e nominated = event_of_hours (map (measured_in x e.notice nominated) (span_hours e))
@@ -75,10 +79,6 @@ event_from x e nominated = event_of_hours (map (measured_in x e.notice nominated
 abbrev pub MeasuredFromLoads : Table → List ℕ → EventSpan → Result EventLoads BaselineFault → Type 0
 MeasuredFromLoads t days e (Ok x) = (nominated : ℕ) → Ok (event_from x e nominated) ≡ event_measured t days e nominated
 MeasuredFromLoads t days e (Err f) = (nominated : ℕ) → Err f ≡ event_measured t days e nominated
-
--- no B of an hour is above 300,000,000 Wh
-abbrev pub SmallBases : List ℕ → Type 0
-SmallBases bases = (h : ℕ) → h < 24 → slice_index bases h ≤ 300000000
 
 -- Bounds of a measured event: at most four hours, no reduction above 120,000,000 Wh, a thirtieth of twelve times the highest B,
 -- and no shortfall above 1000 times the highest number of 32 bits.

@@ -1,5 +1,5 @@
 -- Sums over the loads of days that were read.
-use Rattle.std.specs.Prelude.{ℕ, List, [], map, take, drop, sum_by, sum, slice_index, slice_index_or}
+use Rattle.std.specs.Prelude.{ℕ, ◌<◌, ◌≤◌, List, [], map, take, drop, sum_by, sum, slice_index, slice_index_or}
 use Rattle.std.specs.List.{range_with_len}
 
 -- what a day drew from 14:00 to 20:00
@@ -21,3 +21,7 @@ sum_at days places h = sum_by (load_at days h) places
 -- the same of each hour of the day
 unfoldable pub bases_of : List (List ℕ) → List ℕ → List ℕ
 bases_of days places = map (sum_at days places) (range_with_len 0 24)
+
+-- no B of an hour is above 300,000,000 Wh
+abbrev pub SmallBases : List ℕ → Type 0
+SmallBases bases = (h : ℕ) → h < 24 → slice_index bases h ≤ 300000000

@@ -1,6 +1,8 @@
 ghost use Rattle.std.specs.Prelude.{◌≡◌, ℕ, ◌<◌, ◌≤◌, [], slice_index, slice_index_or};
 ghost use Rattle.baseline.specs.Days.{Small};
-ghost use Rattle.baseline.specs.Sums.{«sum_at», «bases_of»};
+ghost use Rattle.baseline.specs.Sums.{«sum_at», «bases_of», SmallBases};
+
+use std::array;
 
 // What the days at three places drew together in an hour.
 fn base_at(days: &[[u32; 24]; 10], places: [usize; 3], hour: usize) -> u64
@@ -11,7 +13,7 @@ fn base_at(days: &[[u32; 24]; 10], places: [usize; 3], hour: usize) -> u64
     ensures bound { result ≤ 300000000 }
 {
     let [a, b, c] = places;
-    days[a][hour] as u64 + days[b][hour] as u64 + days[c][hour] as u64
+    u64::from(days[a][hour]) + u64::from(days[b][hour]) + u64::from(days[c][hour])
 }
 
 // The same for each hour of the day.
@@ -19,11 +21,7 @@ pub(crate) fn bases(days: &[[u32; 24]; 10], places: [usize; 3]) -> [u64; 24]
     requires places { (k : ℕ) → k < 3 → slice_index places k < 10 }
     requires small { (k : ℕ) → k < 10 → Small (slice_index_or days.now k []) }
     ensures value { result ≡ bases_of days.now places }
-    ensures bound { (h : ℕ) → h < 24 → slice_index result h ≤ 300000000 }
+    ensures bound { SmallBases result }
 {
-    let mut sums = [0; 24];
-    for hour in 0..24 {
-        sums[hour] = base_at(days, places, hour);
-    }
-    sums
+    array::from_fn(|hour| base_at(days, places, hour))
 }

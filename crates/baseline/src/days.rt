@@ -14,12 +14,7 @@ fn all_within(days: &[u8; 10]) -> bool
     ensures value { result ≡ within_summer days.now }
     ensures each { T result → (k : ℕ) → k < 10 → slice_index days.now k ≤ 75 }
 {
-    for day in days {
-        if *day > 75 {
-            return false;
-        }
-    }
-    true
+    days.iter().all(|day| *day <= 75)
 }
 
 impl ComparisonDays {

@@ -1,9 +1,10 @@
-ghost use Rattle.std.specs.Prelude.{◌≡◌, ◌+◌, ◌<◌, ◌≤◌, IfOk};
+ghost use Rattle.std.specs.Prelude.{◌≡◌, ◌+◌, ◌<◌, ◌≤◌, IfOk, slice_index};
 ghost use Rattle.tariff.specs.declared.fault.Use.TheVariants.{EventDay};
 ghost use Rattle.baseline.specs.Days.{«day_read»};
-ghost use Rattle.baseline.specs.Measuring.{«adjusted_in», «hour_of», «measured_in», «event_from», «loads_read», «event_measured», MeasuredFromLoads, SmallBases, Bounded};
+ghost use Rattle.baseline.specs.Sums.{SmallBases};
+ghost use Rattle.baseline.specs.Measuring.{«adjusted_in», «hour_of», «measured_in», «event_from», «loads_read», «event_measured», «entry_from», MeasuredFromLoads, Bounded};
 
-use crate::adjusted;
+use crate::adjusted::{DayHour, shortfall};
 use crate::days::ComparisonDays;
 use crate::loads::EventLoads;
 use crate::measured::MeasuredEvent;
@@ -11,6 +12,7 @@ use crate::original::original_baseline;
 use crate::reads::read_day;
 use crate::span::EventSpan;
 use meter::meter::Meter;
+use std::array;
 use tariff::fault::{BaselineFault, Use};
 use tariff::statement::MeasuredHour;
 
@@ -39,80 +41,81 @@ fn read_loads<M: Meter>(
     Ok(EventLoads { bases, own })
 }
 
-// The adjusted baseline of an hour: the two hours before the notice's hour move it.
-fn adjusted_at(x: &EventLoads, event: &EventSpan, hour: u8) -> u64
-    requires small { SmallBases x.now.bases }
-    requires hour { hour < 24 }
-    ensures value { result ≡ adjusted_in x.now event.now.notice hour }
-    ensures bound { result ≤ 3600000000 }
-{
-    let first = event.notice as usize - 2;
-    let second = event.notice as usize - 1;
-    let base = x.bases[hour as usize];
-    adjusted::adjusted(
-        x.own[first],
-        x.own[second],
-        x.bases[first],
-        x.bases[second],
-        base,
-    )
+// An event that is measured, by the loads that were read for it and at a nomination.
+#[derive(Clone, Copy)]
+struct Measuring<'a> {
+    loads: &'a EventLoads,
+    event: &'a EventSpan,
+    nominated: u32,
+    ghost small: { SmallBases loads.now.bases },
 }
 
-// What is measured in an hour of the event.
-fn measured_at(x: &EventLoads, event: &EventSpan, nominated: u32, hour: u8) -> MeasuredHour
-    requires small { SmallBases x.now.bases }
-    requires hour { hour < 24 }
-    ensures value { result ≡ measured_in x.now event.now.notice nominated (hour_of event.now hour) }
-    ensures reduced { result.reduction ≤ 120000000 }
-    ensures short { result.shortfall ≤ 4294967295000 }
-{
-    let adjusted = adjusted_at(x, event, hour);
-    let reduction = adjusted::reduction(adjusted, x.own[hour as usize]);
-    MeasuredHour {
-        event: event.number,
-        day: event.day,
-        hour,
-        base: x.bases[hour as usize],
-        adjusted,
-        reduction,
-        shortfall: adjusted::shortfall(nominated, reduction),
+impl Measuring<'_> {
+    // An hour of the event's day.
+    fn hour(&self, hour: u8) -> DayHour
+        requires { hour < 24 }
+        ensures load { result.load ≡ slice_index self.now.loads.now.own hour }
+        ensures base { result.base ≡ slice_index self.now.loads.now.bases hour }
+    {
+        let load = self.loads.own[hour as usize];
+        let base = self.loads.bases[hour as usize];
+        DayHour { load, base }
     }
-}
 
-// What is measured in the k-th hour of the event, counted from 0.
-fn measured_hour(x: &EventLoads, event: &EventSpan, nominated: u32, k: u8) -> MeasuredHour
-    requires small { SmallBases x.now.bases }
-    requires hour { k < event.now.length }
-    ensures value { result ≡ measured_in x.now event.now.notice nominated (hour_of event.now (event.now.start + k)) }
-    ensures reduced { result.reduction ≤ 120000000 }
-    ensures short { result.shortfall ≤ 4294967295000 }
-{
-    measured_at(x, event, nominated, event.start + k)
-}
-
-const NO_MEASURED: MeasuredHour = MeasuredHour {
-    event: 0,
-    day: 0,
-    hour: 0,
-    base: 0,
-    adjusted: 0,
-    reduction: 0,
-    shortfall: 0,
-};
-
-// What is measured in each hour of the event.
-fn measured_event(x: &EventLoads, event: &EventSpan, nominated: u32) -> MeasuredEvent
-    requires { SmallBases x.now.bases }
-    ensures value { result ≡ event_from x.now event.now nominated }
-    ensures bounds { Bounded result }
-{
-    let mut hours = [NO_MEASURED; 4];
-    for k in 0..event.length {
-        hours[k as usize] = measured_hour(x, event, nominated, k);
+    // The adjusted baseline of an hour: the two hours before the notice's hour move it.
+    fn adjusted(&self, hour: u8) -> u64
+        requires { hour < 24 }
+        ensures value { result ≡ adjusted_in self.now.loads.now self.now.event.now.notice hour }
+        ensures bound { result ≤ 3600000000 }
+    {
+        let first = self.hour(self.event.notice - 2);
+        let second = self.hour(self.event.notice - 1);
+        self.hour(hour).adjusted(first, second)
     }
-    MeasuredEvent {
-        hours,
-        count: event.length,
+
+    // What is measured in an hour of the event.
+    fn measured(&self, hour: u8) -> MeasuredHour
+        requires { hour < 24 }
+        ensures value { result ≡ measured_in self.now.loads.now self.now.event.now.notice self.now.nominated (hour_of self.now.event.now hour) }
+        ensures reduced { result.reduction ≤ 120000000 }
+        ensures short { result.shortfall ≤ 4294967295000 }
+    {
+        let adjusted = self.adjusted(hour);
+        let reduction = self.hour(hour).reduction(adjusted);
+        MeasuredHour {
+            event: self.event.number,
+            day: self.event.day,
+            hour,
+            base: self.hour(hour).base,
+            adjusted,
+            reduction,
+            shortfall: shortfall(self.nominated, reduction),
+        }
+    }
+
+    // The k-th entry of the event's record, counted from 0: what is measured in its k-th hour, or zeros where it has no such hour.
+    #[tactic(auto, unfolding(crate::specs::Measuring::entry_from))]
+    fn entry(&self, k: usize) -> MeasuredHour
+        ensures value { result ≡ entry_from self.now.loads.now self.now.event.now self.now.nominated k }
+        ensures reduced { result.reduction ≤ 120000000 }
+        ensures short { result.shortfall ≤ 4294967295000 }
+    {
+        if k < usize::from(self.event.length) {
+            self.measured(self.event.start + k as u8)
+        } else {
+            MeasuredHour::default()
+        }
+    }
+
+    // What is measured in each hour of the event.
+    fn measured_event(&self) -> MeasuredEvent
+        ensures value { result ≡ event_from self.now.loads.now self.now.event.now self.now.nominated }
+        ensures bounds { Bounded result }
+    {
+        MeasuredEvent {
+            hours: array::from_fn(|k| self.entry(k)),
+            count: self.event.length,
+        }
     }
 }
 
@@ -129,5 +132,10 @@ pub fn measure_event<M: Meter>(
     ensures keeps { M.table meter.new ≡ M.table meter.old }
 {
     let loads = read_loads(meter, days, event)?;
-    Ok(measured_event(&loads, event, nominated))
+    let measuring = Measuring {
+        loads: &loads,
+        event,
+        nominated,
+    };
+    Ok(measuring.measured_event())
 }

@@ -1,5 +1,6 @@
-ghost use Rattle.std.specs.Prelude.{◌≡◌, ℕ, ◌<◌, ◌≤◌, IfOk, slice_index};
+ghost use Rattle.std.specs.Prelude.{◌≡◌, IfOk};
 ghost use Rattle.tariff.specs.Highest.{Highest};
+ghost use Rattle.baseline.specs.Sums.{SmallBases};
 ghost use Rattle.baseline.specs.Original.{«original_read»};
 
 use crate::days::ComparisonDays;
@@ -26,7 +27,7 @@ pub fn original_baseline<M: Meter>(
     days: &ComparisonDays,
 ) -> Result<OriginalBaseline, BaselineFault>
     ensures answer { result ≡ original_read (M.table meter.old) days.now.days }
-    ensures bound { IfOk result (λ x. (h : ℕ) → h < 24 → slice_index x.bases h ≤ 300000000) }
+    ensures bound { IfOk result (λ x. SmallBases x.bases) }
     ensures keeps { M.table meter.new ≡ M.table meter.old }
 {
     let loads = read_days(meter, &days.days)?;

@@ -1,16 +1,14 @@
 ghost use Rattle.std.specs.Prelude.{◌≡◌, ◌≤◌, length, sum};
 ghost use Rattle.baseline.specs.Sums.{«afternoon_of», «totals_of»};
 
+use std::array;
+
 // What some hours of a day drew together.
 fn sum_of(loads: &[u32]) -> u64
     requires { length loads.now ≤ 24 }
     ensures { result ≡ sum loads.now }
 {
-    let mut sum = 0;
-    for load in loads {
-        sum += u64::from(*load);
-    }
-    sum
+    loads.iter().map(|load| u64::from(*load)).sum()
 }
 
 // What a day drew from 14:00 to 20:00.
@@ -24,9 +22,5 @@ fn afternoon(loads: &[u32; 24]) -> u64
 pub(crate) fn totals(days: &[[u32; 24]; 10]) -> [u64; 10]
     ensures { result ≡ totals_of days.now }
 {
-    let mut sums = [0; 10];
-    for place in 0..10 {
-        sums[place] = afternoon(&days[place]);
-    }
-    sums
+    array::from_fn(|place| afternoon(&days[place]))
 }

@@ -1,21 +1,16 @@
-use Rattle.std.proofs.Common.{sym, ◌∙◌, arith, below_more}
-use Rattle.baseline.proofs.Within.{within_more, within_stops, within_ends}
+use Rattle.std.proofs.Common.{◌≡◌, ℕ, leb, ◌&&◌, List, [], ◌∷◌, refl, ap, ◌∙◌, rules, tests}
+use Rattle.std.specs.List.{list_all}
+use Rattle.std.proofs.lemmas.Iterator.{YieldsList-from_slice}
+use Rattle.std.proofs.lemmas.Iterator.Search.{all_from_yields_List}
+use Rattle.baseline.specs.Days.{within_summer}
 use Rattle.baseline.proofs.days.all_within.Goals as goal
 
-pub returns-then-day-gt75 : goal.returns-then-day-gt75
-returns-then-day-gt75 c =
-    let i = c.loop-day.day-index in
-    let days = c.args.days.now in
-    record { value = sym (c.loop-day.invariant.0 ∙ within_stops days i (omega arith) (omega arith)); each = λ z. absurd z }
+within_each : (days : List ℕ) → list_all (λ d. leb d 75) days ≡ within_summer days
+within_each [] = refl
+within_each (d ∷ days) = ap (λ b. leb d 75 && b) (within_each days)
 
-pub loop-day-preserved : goal.loop-day-preserved
-loop-day-preserved c =
-    let i = c.loop-day.day-index in
+pub returns-clause-value : goal.returns-clause-value
+returns-clause-value c =
     let days = c.args.days.now in
-    (c.loop-day.invariant.0 ∙ within_more days i (omega arith) (omega arith), below_more _ _ c.loop-day.invariant.1 (omega arith))
-
-pub returns : goal.returns
-returns c =
-    let i = c.loop-day.day-index in
-    let days = c.args.days.now in
-    record { value = sym (c.loop-day.invariant.0 ∙ within_ends days i (omega arith)); each = λ _ k h. c.loop-day.invariant.1 k (omega arith) }
+    let all = all_from_yields_List (λ d. leb d 75) _ _ c.all.result c.all.ensures.ran (YieldsList-from_slice days cc) (λ x b q k. search (rules, tests)) in
+    all ∙ within_each days

@@ -2,15 +2,15 @@ use Rattle.std.proofs.Common.{◌≡◌, ℕ, ◌*◌, pos, ◌+ℤ◌, sym, ap,
 use Rattle.std.proofs.lemmas.Int.{ints}
 use Rattle.tariff.specs.Measure.{adjusted_from}
 use Rattle.tariff.proofs.Adjustment.{the_adjustment_is_held}
-use Rattle.baseline.proofs.adjusted.adjusted.Goals as goal
+use Rattle.baseline.proofs.adjusted.DayHour.adjusted.Goals as goal
 
 pub returns : goal.returns
 returns c =
-    let p : ℕ = c.args.p in
-    let q : ℕ = c.args.q in
-    let p₃ : ℕ = c.args.p3 in
-    let q₃ : ℕ = c.args.q3 in
-    let b : ℕ = c.args.base in
+    let p : ℕ = c.args.first.load in
+    let q : ℕ = c.args.second.load in
+    let p₃ : ℕ = c.args.first.base in
+    let q₃ : ℕ = c.args.second.base in
+    let b : ℕ = c.args.self.base in
     let n : ℕ = adjusted_from p q p₃ q₃ b in
     let sum : pos (10 * b) +ℤ c.held_adjustment.result ≡ pos n =
     ap (λ z. pos (10 * b) +ℤ z) c.held_adjustment.ensures.value ∙ sym (the_adjustment_is_held p q p₃ q₃ b).sum in
