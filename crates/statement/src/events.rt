@@ -66,11 +66,8 @@ pub(crate) fn measure_standing<M: Meter>(
     let days = comparison_of(season, day);
     let span = span_of(number, day, event);
     let nominated = nomination_on(season.year(), site, day);
-    match measure_event(meter, &days, &span, nominated) {
-        Ok(measured) => Ok(measured),
-        Err(fault) => Err(EventFault {
-            event: number,
-            fault,
-        }),
-    }
+    measure_event(meter, &days, &span, nominated).map_err(|fault| EventFault {
+        event: number,
+        fault,
+    })
 }

@@ -35,8 +35,7 @@ pub(crate) fn push_event(list: &mut HourList, year: u32, event: &MeasuredEvent)
     ensures hours { measured_of_list list.new ≡ measured_of_list list.old ++ take event.now.count event.now.hours }
     ensures weeks { AllByRecursion (InYear year) (listed list.new) }
 {
-    for k in 0..event.count {
-        let hour = placed(year, event.hours[k as usize]);
-        let _ = list.push(hour);
+    for hour in &event.hours[..event.count as usize] {
+        let _ = list.push(placed(year, *hour));
     }
 }

@@ -1,6 +1,6 @@
-ghost use Rattle.std.specs.Prelude.{◌≡◌, ◌+◌, ◌≤◌, length, if◌then◌else◌};
+ghost use Rattle.std.specs.Prelude.{◌≡◌, ◌+◌, ◌≤◌, length};
 ghost use Rattle.std.specs.List.{AllByRecursion};
-ghost use Rattle.tariff.specs.Events.{day_hours, event_number, stands};
+ghost use Rattle.tariff.specs.Events.{day_hours, event_number};
 ghost use Rattle.tariff.specs.Season.{day_at};
 ghost use Rattle.pay.specs.Listed.{listed};
 ghost use Rattle.season.specs.View.{view};
@@ -14,19 +14,8 @@ use season::Season;
 use tariff::season::{Day, Site};
 use tariff::statement::{EventFault, StatementRefusal};
 
-// The number of the next event: one more where an event stands, and the same where none was announced or it was revoked.
-fn next_number(number: u8, held: Day) -> u8
-    requires { number ≤ 76 }
-    ensures { result ≡ number + (if stands held then 1 else 0) }
-{
-    match held {
-        Day::Standing(_) => number + 1,
-        Day::NoEvent => number,
-        Day::Revoked(_) => number,
-    }
-}
-
-// Measures the event of a day, where one stands, and adds its hours to the list. Answers the number of the next event.
+// Measures the event of a day, where one stands, and adds its hours to the list. Answers the number of the next event: one more
+// where an event stands, and the same where none was announced or it was revoked.
 fn measure_day<M: Meter>(
     season: &Season,
     site: &Site,
@@ -43,16 +32,13 @@ fn measure_day<M: Meter>(
     ensures told { DayTold (view season.now) site.now (M.table meter.old) day list.old list.new result }
     ensures keeps { M.table meter.new ≡ M.table meter.old }
 {
-    let held = season.day(u32::from(day));
-    let next = next_number(number, held);
-    match held {
+    match season.day(u32::from(day)) {
         Day::Standing(event) => {
             let measured = measure_standing(season, site, meter, day, event, number)?;
             push_event(list, season.year(), &measured);
-            Ok(next)
+            Ok(number + 1)
         }
-        Day::NoEvent => Ok(next),
-        Day::Revoked(_) => Ok(next),
+        Day::NoEvent | Day::Revoked(_) => Ok(number),
     }
 }
 

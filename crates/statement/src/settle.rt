@@ -38,8 +38,6 @@ pub(crate) fn settle<M: Meter>(
     if !season.is_closed() {
         return Err(StatementRefusal::SeasonNotClosed);
     }
-    let Some(enrolled) = season.site(site) else {
-        return Err(StatementRefusal::NoSuchSite);
-    };
+    let enrolled = season.site(site).ok_or(StatementRefusal::NoSuchSite)?;
     settle_site(season, &enrolled, meter)
 }

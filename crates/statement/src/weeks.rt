@@ -4,6 +4,7 @@ ghost use Rattle.tariff.specs.Season.{nomination_for};
 
 use calendar::{last_week, programme_days, week_of};
 use pay::weeks::Weeks;
+use std::array;
 use tariff::season::Site;
 
 // The weeks of a year's season with their programme days.
@@ -11,12 +12,8 @@ pub(crate) fn weeks_of(year: u32) -> Weeks
     ensures last { result.last ≡ spec.last_week year }
     ensures days { (w : ℕ) → 1 ≤ w → w ≤ 10 → slice_index result.days (w - 1) ≡ spec.programme_days year w }
 {
-    let mut days = [0; 10];
-    for k in 0..10u8 {
-        days[k as usize] = programme_days(year, u32::from(k) + 1);
-    }
     Weeks {
-        days,
+        days: array::from_fn(|k| programme_days(year, k as u32 + 1)),
         last: last_week(year) as u8,
     }
 }

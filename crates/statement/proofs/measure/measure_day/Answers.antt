@@ -1,13 +1,13 @@
-use Rattle.std.proofs.Common.{◌≡◌, ℕ, ◌+◌, cond, Err, sym, refl, ap, ◌∙◌, subst, arith}
-use Rattle.tariff.specs.Events.{stands}
+use Rattle.std.proofs.Common.{◌≡◌, ℕ, false, Err, sym, refl, ap, ◌∙◌, subst, arith}
 use Rattle.std.specs.List.{AllByRecursion}
 use Rattle.std.proofs.lemmas.Result.{err_from_is_err_and}
-use Rattle.tariff.specs.Season.{day_at}
-use Rattle.tariff.specs.declared.season.Day.TheVariants.{NoEvent, Standing, Revoked}
+use Rattle.tariff.specs.Events.{stands}
+use Rattle.tariff.specs.Season.{day_at, standing}
+use Rattle.tariff.specs.declared.season.Day.TheVariants.{Standing}
 use Rattle.pay.specs.Listed.{listed}
 use Rattle.season.specs.View.{view}
-use Rattle.statement.specs.Measured.{InYear, DayMeasured, DayTold}
-use Rattle.statement.proofs.DayByDay.{quiet_day, count_of, days_within, standing_day, standing_fault}
+use Rattle.statement.specs.Measured.{InYear, DayTold}
+use Rattle.statement.proofs.DayByDay.{quiet_day, stands_not, count_of, days_within, standing_day, standing_fault}
 use Rattle.statement.proofs.measure.measure_day.Goals as goal
 
 pub returns-in_err-measured-in-Standing : goal.returns-in_err-measured-in-Standing
@@ -17,7 +17,7 @@ returns-in_err-measured-in-Standing g c =
     let t = g.M.Meter.table c.args.meter.now in
     let list = c.args.list.now in
     let f = c.in_err-measured-in-Standing.field-0.0 in
-    let held : day_at s c.args.day ≡ Standing c.in-Standing.event = ap (day_at s) (sym c.from.ensures) ∙ sym c.day-held.ensures.is ∙ c.in-Standing.is in
+    let held : day_at s c.args.day ≡ Standing c.in-Standing.event = ap (day_at s) (sym c.from.ensures) ∙ sym c.day.ensures.is ∙ c.in-Standing.is in
     let p = err_from_is_err_and c.from_residual.result c.from_residual.ensures.1 in
     let is : c.from_residual.result ≡ Err f = p.1 ∙ ap Err p.2 in
     let fault = standing_fault s x t c.args.day c.in-Standing.event c.args.number held c.requires.number f c.in_err-measured-in-Standing.ensures.answer in
@@ -32,7 +32,7 @@ push_event-requires g c =
     let x = c.args.site.now in
     let t = g.M.Meter.table c.args.meter.now in
     let m = c.in_ok-measured-in-Standing.measured in
-    let held : day_at s c.args.day ≡ Standing c.in-Standing.event = ap (day_at s) (sym c.from.ensures) ∙ sym c.day-held.ensures.is ∙ c.in-Standing.is in
+    let held : day_at s c.args.day ≡ Standing c.in-Standing.event = ap (day_at s) (sym c.from.ensures) ∙ sym c.day.ensures.is ∙ c.in-Standing.is in
     let told = c.in_ok-measured-in-Standing.ensures.answer in
     let count = count_of s x t c.args.day c.in-Standing.event c.args.number held c.requires.number m told in
     record {
@@ -49,35 +49,19 @@ returns-in_ok-measured-in-Standing g c =
     let t = g.M.Meter.table c.args.meter.now in
     let m = c.in_ok-measured-in-Standing.measured in
     let after = c.push_event.new.list in
-    let held : day_at s c.args.day ≡ Standing c.in-Standing.event = ap (day_at s) (sym c.from.ensures) ∙ sym c.day-held.ensures.is ∙ c.in-Standing.is in
+    let held : day_at s c.args.day ≡ Standing c.in-Standing.event = ap (day_at s) (sym c.from.ensures) ∙ sym c.day.ensures.is ∙ c.in-Standing.is in
     let weeks = subst (λ (y : ℕ). AllByRecursion (InYear y) (listed after)) c.year.ensures c.push_event.ensures.weeks in
-    let more : c.next_number-next.result ≡ c.args.number + 1 = c.next_number-next.ensures ∙ ap (λ day. c.args.number + cond (stands day) 1 0) c.in-Standing.is in
     record {
-      told = subst (DayMeasured s x t c.args.day c.args.list.now after) (sym more) (standing_day s x t c.args.day c.in-Standing.event c.args.number held c.requires.number m c.args.list.now after c.in_ok-measured-in-Standing.ensures.answer c.requires.low c.push_event.ensures.counts c.push_event.ensures.hours weeks);
+      told = standing_day s x t c.args.day c.in-Standing.event c.args.number held c.requires.number m c.args.list.now after c.in_ok-measured-in-Standing.ensures.answer c.requires.low c.push_event.ensures.counts c.push_event.ensures.hours weeks;
       keeps = c.measure_standing.ensures.keeps;
     }
 
 pub returns-in-NoEvent : goal.returns-in-NoEvent
 returns-in-NoEvent g c =
     let s = view c.args.season.now in
-    let t = g.M.Meter.table c.args.meter.now in
-    let held : day_at s c.args.day ≡ NoEvent = ap (day_at s) (sym c.from.ensures) ∙ sym c.day-held.ensures.is ∙ c.in-NoEvent.is in
-    let none : c.next_number-next.result ≡ c.args.number + 0 = c.next_number-next.ensures ∙ ap (λ day. c.args.number + cond (stands day) 1 0) c.in-NoEvent.is in
-    let same : c.next_number-next.result ≡ c.args.number = omega (arith, none) in
+    let held : c.day.result ≡ day_at s c.args.day = c.day.ensures.is ∙ ap (day_at s) c.from.ensures in
+    let none : standing s c.args.day ≡ false = ap stands (sym held) ∙ stands_not c.day.result c.in-NoEvent.is in
     record {
-      told = subst (DayMeasured s c.args.site.now t c.args.day c.args.list.now c.args.list.now) (sym same) (quiet_day s c.args.site.now t c.args.day NoEvent c.args.list.now c.args.number held refl refl (λ n. refl) c.requires.number c.requires.low c.requires.weeks);
-      keeps = refl;
-    }
-
-pub returns-in-Revoked : goal.returns-in-Revoked
-returns-in-Revoked g c =
-    let s = view c.args.season.now in
-    let t = g.M.Meter.table c.args.meter.now in
-    let e = c.in-Revoked.field-0 in
-    let held : day_at s c.args.day ≡ Revoked e = ap (day_at s) (sym c.from.ensures) ∙ sym c.day-held.ensures.is ∙ c.in-Revoked.is in
-    let none : c.next_number-next.result ≡ c.args.number + 0 = c.next_number-next.ensures ∙ ap (λ day. c.args.number + cond (stands day) 1 0) c.in-Revoked.is in
-    let same : c.next_number-next.result ≡ c.args.number = omega (arith, none) in
-    record {
-      told = subst (DayMeasured s c.args.site.now t c.args.day c.args.list.now c.args.list.now) (sym same) (quiet_day s c.args.site.now t c.args.day (Revoked e) c.args.list.now c.args.number held refl refl (λ n. refl) c.requires.number c.requires.low c.requires.weeks);
+      told = quiet_day s c.args.site.now (g.M.Meter.table c.args.meter.now) c.args.day c.args.list.now c.args.number none c.requires.number c.requires.low c.requires.weeks;
       keeps = refl;
     }
