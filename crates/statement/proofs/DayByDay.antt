@@ -56,16 +56,14 @@ stands_not held (inr (e, h)) = ap stands h
 pub quiet_day : (s : Season) (x : Site) (t : Table) (d : ℕ) (list : HourList) (number : ℕ) →
     standing s d ≡ false →
     number ≡ event_number s.days d →
-    number ≤ d + 1 →
     AllByRecursion (InYear s.year) (listed list) →
     DayMeasured s x t d list list number
-quiet_day s x t d list number none en low weeks =
+quiet_day s x t d list number none en weeks =
     let quiet = no_hours (day_at s d) none in
     let zero_more : ◌≡◌ {A = ℕ} (cond {A = ℕ} (standing s d) 1 0) 0 = cond-false {A = ℕ} (standing s d) 1 0 none in
     record {
       answered = cond-false (standing s d) _ _ none;
       number = omega (arith, zero_more, next_number_lem s d (day_at s d) refl);
-      low = omega arith;
       counts = omega (arith, quiet.0);
       hours = sym (ap (λ hs. measured_of_list list ++ map (measured s x t) hs) (quiet.1 (event_number s.days d) d) ∙ append-nil (measured_of_list list));
       weeks = weeks;
@@ -112,12 +110,11 @@ module _ (s : Season) (x : Site) (t : Table) (d : ℕ) (e : Event) (number : ℕ
 
   -- what its hours leave
   pub standing_day : (m : MeasuredEvent) (before after : HourList) → Ok m ≡ standing_measured s x t number d e →
-      number ≤ d + 1 →
       length (listed after) ≡ length (listed before) + m.count →
       measured_of_list after ≡ measured_of_list before ++ take m.count m.hours →
       AllByRecursion (InYear s.year) (listed after) →
       DayMeasured s x t d before after (number + 1)
-  standing_day m before after p low counts hours weeks =
+  standing_day m before after p counts hours weeks =
       let whole = measured_whole m p in
       let hs : List MeasuredHour = map (measured s x t) (hours_on number d (Standing e)) in
       let taken : take m.count m.hours ≡ hs = ap (λ v. take v.count v.hours) whole.1 ∙ hours_back hs in
@@ -125,7 +122,6 @@ module _ (s : Season) (x : Site) (t : Table) (d : ℕ) (e : Event) (number : ℕ
       record {
         answered = cond-true (standing s d) _ _ (ap stands held) ∙ ap (numbered (event_number s.days d)) whole.0;
         number = omega (arith, next_number_lem s d (Standing e) held);
-        low = omega arith;
         counts = omega (arith, count_of m p);
         hours = hours ∙ ap (λ rest. measured_of_list before ++ rest) (taken ∙ same);
         weeks = weeks;

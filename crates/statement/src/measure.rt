@@ -26,7 +26,6 @@ fn measure_day<M: Meter>(
 ) -> Result<u8, EventFault>
     requires day { day ≤ 75 }
     requires number { number ≡ event_number (view season.now).days day }
-    requires low { number ≤ day + 1 }
     requires room { length (listed list.old) + day_hours (day_at (view season.now) day) ≤ 60 }
     requires weeks { AllByRecursion (InYear (view season.now).year) (listed list.old) }
     ensures told { DayTold (view season.now) site.now (M.table meter.old) day list.old list.new result }

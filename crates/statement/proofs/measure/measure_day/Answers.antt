@@ -8,6 +8,7 @@ use Rattle.pay.specs.Listed.{listed}
 use Rattle.season.specs.View.{view}
 use Rattle.statement.specs.Measured.{InYear, DayTold}
 use Rattle.statement.proofs.DayByDay.{quiet_day, stands_not, count_of, days_within, standing_day, standing_fault}
+use Rattle.statement.proofs.SeasonHours.{standing_few}
 use Rattle.statement.proofs.measure.measure_day.Goals as goal
 
 pub returns-in_err-measured-in-Standing : goal.returns-in_err-measured-in-Standing
@@ -42,6 +43,11 @@ push_event-requires g c =
       weeks = subst (λ (y : ℕ). AllByRecursion (InYear y) (listed c.args.list.now)) (sym c.year.ensures) c.requires.weeks;
     }
 
+pub overflow_add-result : goal.overflow_add-result
+overflow_add-result g c =
+    let few = standing_few (view c.args.season.now).days c.args.day in
+    omega (arith, few, c.requires.number)
+
 pub returns-in_ok-measured-in-Standing : goal.returns-in_ok-measured-in-Standing
 returns-in_ok-measured-in-Standing g c =
     let s = view c.args.season.now in
@@ -52,7 +58,7 @@ returns-in_ok-measured-in-Standing g c =
     let held : day_at s c.args.day ≡ Standing c.in-Standing.event = ap (day_at s) (sym c.from.ensures) ∙ sym c.day.ensures.is ∙ c.in-Standing.is in
     let weeks = subst (λ (y : ℕ). AllByRecursion (InYear y) (listed after)) c.year.ensures c.push_event.ensures.weeks in
     record {
-      told = standing_day s x t c.args.day c.in-Standing.event c.args.number held c.requires.number m c.args.list.now after c.in_ok-measured-in-Standing.ensures.answer c.requires.low c.push_event.ensures.counts c.push_event.ensures.hours weeks;
+      told = standing_day s x t c.args.day c.in-Standing.event c.args.number held c.requires.number m c.args.list.now after c.in_ok-measured-in-Standing.ensures.answer c.push_event.ensures.counts c.push_event.ensures.hours weeks;
       keeps = c.measure_standing.ensures.keeps;
     }
 
@@ -62,6 +68,6 @@ returns-in-NoEvent g c =
     let held : c.day.result ≡ day_at s c.args.day = c.day.ensures.is ∙ ap (day_at s) c.from.ensures in
     let none : standing s c.args.day ≡ false = ap stands (sym held) ∙ stands_not c.day.result c.in-NoEvent.is in
     record {
-      told = quiet_day s c.args.site.now (g.M.Meter.table c.args.meter.now) c.args.day c.args.list.now c.args.number none c.requires.number c.requires.low c.requires.weeks;
+      told = quiet_day s c.args.site.now (g.M.Meter.table c.args.meter.now) c.args.day c.args.list.now c.args.number none c.requires.number c.requires.weeks;
       keeps = refl;
     }

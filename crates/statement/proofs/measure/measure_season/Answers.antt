@@ -21,7 +21,6 @@ loop-day-init g c =
     let none = c.none-list.ensures in (
       refl,
       omega (arith, standing_none s.days),
-      omega arith,
       ap length none ∙ sym (hours_none s.days),
       ap measured_list none ∙ sym (ap (map (measured s c.args.site.now t)) (event_hours_none s.days)),
       subst (AllByRecursion (InYear s.year)) (sym none) tt,
@@ -36,9 +35,8 @@ measure_day-requires g c =
     record {
       day = omega arith;
       number = inv.1;
-      low = inv.2;
-      room = room_for_day s d (length (listed c.loop-day.list)) (omega arith) c.stays_sound.ensures.overall inv.3;
-      weeks = inv.5;
+      room = room_for_day s d (length (listed c.loop-day.list)) (omega arith) c.stays_sound.ensures.overall inv.2;
+      weeks = inv.4;
     }
 
 pub returns-in_err-number : goal.returns-in_err-number
@@ -53,7 +51,7 @@ returns-in_err-number g c =
     let is : c.from_residual.result ≡ Err (EventWithoutBaseline f.event f.fault) = p.1 ∙ ap Err p.2 in
     let here = subst (λ (u : Table). day_refusal s u d ≡ Some (EventWithoutBaseline f.event f.fault)) inv.0 c.in_err-number.ensures.told in
     record {
-      told = subst (SeasonTold s x t) (sym is) (first_fault s t d (EventWithoutBaseline f.event f.fault) (omega arith) inv.6 here);
+      told = subst (SeasonTold s x t) (sym is) (first_fault s t d (EventWithoutBaseline f.event f.fault) (omega arith) inv.5 here);
       keeps = c.measure_day.ensures.keeps ∙ inv.0;
     }
 
@@ -70,11 +68,10 @@ loop-day-preserved g c =
     let day : DayMeasured s x t d before after n = subst (λ (u : Table). DayMeasured s x u d before after n) inv.0 c.in_ok-number.ensures.told in (
       c.measure_day.ensures.keeps ∙ inv.0,
       day.number,
-      omega (arith, day.low),
-      counts_more s x t d n before after day inv.3,
-      hours_again s x t d n before after day inv.4,
+      counts_more s x t d n before after day inv.2,
+      hours_again s x t d n before after day inv.3,
       day.weeks,
-      below_more _ _ inv.6 day.answered,
+      below_more _ _ inv.5 day.answered,
     )
 
 pub returns : goal.returns
@@ -87,10 +84,10 @@ returns g c =
     let end : c.loop-day.day ≡ 76 = omega arith in
     record {
       told = record {
-        answered = no_fault s t (λ k h. inv.6 k (omega arith));
-        counts = hours_counted s (length (listed list)) (inv.3 ∙ ap (hours_before s.days) end);
-        hours = inv.4 ∙ ap (λ n. map (measured s x t) (event_hours_before s.days n)) end;
-        weeks = inv.5;
+        answered = no_fault s t (λ k h. inv.5 k (omega arith));
+        counts = hours_counted s (length (listed list)) (inv.2 ∙ ap (hours_before s.days) end);
+        hours = inv.3 ∙ ap (λ n. map (measured s x t) (event_hours_before s.days n)) end;
+        weeks = inv.4;
       };
       keeps = inv.0;
     }

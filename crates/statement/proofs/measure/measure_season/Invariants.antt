@@ -14,7 +14,6 @@ invariant-loop-day g l =
     let s = view l.season in
     (t l.meter ≡ t l.initial.meter)
     × (l.number ≡ event_number s.days l.day)
-    × (l.number ≤ l.day + 1)
     × (length (listed l.list) ≡ hours_before s.days l.day)
     × (measured_of_list l.list ≡ map (measured s l.site (t l.initial.meter)) (event_hours_before s.days l.day))
     × AllByRecursion (InYear s.year) (listed l.list)
