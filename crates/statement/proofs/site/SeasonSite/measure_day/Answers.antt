@@ -9,12 +9,12 @@ use Rattle.season.specs.View.{view}
 use Rattle.statement.specs.Measured.{InYear, DayTold}
 use Rattle.statement.proofs.DayByDay.{quiet_day, stands_not, count_of, days_within, standing_day, standing_fault}
 use Rattle.statement.proofs.SeasonHours.{standing_few}
-use Rattle.statement.proofs.measure.measure_day.Goals as goal
+use Rattle.statement.proofs.site.SeasonSite.measure_day.Goals as goal
 
 pub returns-in_err-measured-in-Standing : goal.returns-in_err-measured-in-Standing
 returns-in_err-measured-in-Standing g c =
-    let s = view c.args.season.now in
-    let x = c.args.site.now in
+    let s = view c.args.self.now.season.now in
+    let x = c.args.self.now.site.now in
     let t = g.M.Meter.table c.args.meter.now in
     let list = c.args.list.now in
     let f = c.in_err-measured-in-Standing.field-0.0 in
@@ -29,8 +29,8 @@ returns-in_err-measured-in-Standing g c =
 
 pub push_event-requires : goal.push_event-requires
 push_event-requires g c =
-    let s = view c.args.season.now in
-    let x = c.args.site.now in
+    let s = view c.args.self.now.season.now in
+    let x = c.args.self.now.site.now in
     let t = g.M.Meter.table c.args.meter.now in
     let m = c.in_ok-measured-in-Standing.measured in
     let held : day_at s c.args.day ≡ Standing c.in-Standing.event = ap (day_at s) (sym c.from.ensures) ∙ sym c.day.ensures.is ∙ c.in-Standing.is in
@@ -45,13 +45,13 @@ push_event-requires g c =
 
 pub overflow_add-result : goal.overflow_add-result
 overflow_add-result g c =
-    let few = standing_few (view c.args.season.now).days c.args.day in
+    let few = standing_few (view c.args.self.now.season.now).days c.args.day in
     omega (arith, few, c.requires.number)
 
 pub returns-in_ok-measured-in-Standing : goal.returns-in_ok-measured-in-Standing
 returns-in_ok-measured-in-Standing g c =
-    let s = view c.args.season.now in
-    let x = c.args.site.now in
+    let s = view c.args.self.now.season.now in
+    let x = c.args.self.now.site.now in
     let t = g.M.Meter.table c.args.meter.now in
     let m = c.in_ok-measured-in-Standing.measured in
     let after = c.push_event.new.list in
@@ -64,10 +64,10 @@ returns-in_ok-measured-in-Standing g c =
 
 pub returns-in-NoEvent : goal.returns-in-NoEvent
 returns-in-NoEvent g c =
-    let s = view c.args.season.now in
+    let s = view c.args.self.now.season.now in
     let held : c.day.result ≡ day_at s c.args.day = c.day.ensures.is ∙ ap (day_at s) c.from.ensures in
     let none : standing s c.args.day ≡ false = ap stands (sym held) ∙ stands_not c.day.result c.in-NoEvent.is in
     record {
-      told = quiet_day s c.args.site.now (g.M.Meter.table c.args.meter.now) c.args.day c.args.list.now c.args.number none c.requires.number c.requires.weeks;
+      told = quiet_day s c.args.self.now.site.now (g.M.Meter.table c.args.meter.now) c.args.day c.args.list.now c.args.number none c.requires.number c.requires.weeks;
       keeps = refl;
     }

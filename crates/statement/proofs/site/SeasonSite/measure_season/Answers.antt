@@ -12,24 +12,24 @@ use Rattle.pay.specs.Paying.{measured_list}
 use Rattle.season.specs.View.{view}
 use Rattle.statement.specs.Measured.{InYear, DayMeasured, SeasonTold}
 use Rattle.statement.proofs.SeasonHours.{room_for_day, counts_more, hours_again, no_fault, first_fault, hours_counted}
-use Rattle.statement.proofs.measure.measure_season.Goals as goal
+use Rattle.statement.proofs.site.SeasonSite.measure_season.Goals as goal
 
 pub loop-day-init : goal.loop-day-init
 loop-day-init g c =
-    let s = view c.args.season.now in
+    let s = view c.args.self.now.season.now in
     let t = g.M.Meter.table c.args.meter.now in
     let none = c.none-list.ensures in (
       refl,
       omega (arith, standing_none s.days),
       ap length none ∙ sym (hours_none s.days),
-      ap measured_list none ∙ sym (ap (map (measured s c.args.site.now t)) (event_hours_none s.days)),
+      ap measured_list none ∙ sym (ap (map (measured s c.args.self.now.site.now t)) (event_hours_none s.days)),
       subst (AllByRecursion (InYear s.year)) (sym none) tt,
       λ k h. let z : ⊥ = omega arith in absurd z,
     )
 
 pub measure_day-requires : goal.measure_day-requires
 measure_day-requires g c =
-    let s = view c.args.season.now in
+    let s = view c.args.self.now.season.now in
     let inv = c.loop-day.invariant in
     let d = c.loop-day.day in
     record {
@@ -41,8 +41,8 @@ measure_day-requires g c =
 
 pub returns-in_err-number : goal.returns-in_err-number
 returns-in_err-number g c =
-    let s = view c.args.season.now in
-    let x = c.args.site.now in
+    let s = view c.args.self.now.season.now in
+    let x = c.args.self.now.site.now in
     let t = g.M.Meter.table c.args.meter.now in
     let inv = c.loop-day.invariant in
     let d = c.loop-day.day in
@@ -57,8 +57,8 @@ returns-in_err-number g c =
 
 pub loop-day-preserved : goal.loop-day-preserved
 loop-day-preserved g c =
-    let s = view c.args.season.now in
-    let x = c.args.site.now in
+    let s = view c.args.self.now.season.now in
+    let x = c.args.self.now.site.now in
     let t = g.M.Meter.table c.args.meter.now in
     let inv = c.loop-day.invariant in
     let d = c.loop-day.day in
@@ -76,8 +76,8 @@ loop-day-preserved g c =
 
 pub returns : goal.returns
 returns g c =
-    let s = view c.args.season.now in
-    let x = c.args.site.now in
+    let s = view c.args.self.now.season.now in
+    let x = c.args.self.now.site.now in
     let t = g.M.Meter.table c.args.meter.now in
     let inv = c.loop-day.invariant in
     let list = c.loop-day.list in
