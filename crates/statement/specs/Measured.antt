@@ -1,5 +1,5 @@
 -- What a list of measured hours holds.
-use Rattle.std.specs.Prelude.{◌≡◌, ℕ, ◌+◌, ◌≤◌, List, ◌++◌, map, length, Some, None, Ok, Err, Result}
+use Rattle.std.specs.Prelude.{◌≡◌, ℕ, ◌+◌, List, ◌++◌, map, length, Some, None, Ok, Err, Result}
 use Rattle.std.specs.List.{AllByRecursion}
 use Rattle.tariff.specs.Calendar.{week_of}
 use Rattle.tariff.specs.Events.{hours_on, day_hours, event_number}

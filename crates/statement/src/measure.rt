@@ -50,6 +50,7 @@ impl SeasonSite<'_> {
     {
         self.season.stays_sound();
         let mut list = HourList::none();
+        // Only a day on which an event stands moves the number on, so it is no index of the days.
         let mut number = 1;
         for day in 0..76u8 {
             number = self.measure_day(meter, day, number, &mut list)?;

@@ -11,8 +11,8 @@ use Rattle.statement.proofs.DayByDay.{quiet_day, stands_not, count_of, days_with
 use Rattle.statement.proofs.SeasonHours.{standing_few}
 use Rattle.statement.proofs.site.SeasonSite.measure_day.Goals as goal
 
-pub returns-in_err-measured-in-Standing : goal.returns-in_err-measured-in-Standing
-returns-in_err-measured-in-Standing g c =
+pub returns-in_err-measured-in-Standing-clause-told : goal.returns-in_err-measured-in-Standing-clause-told
+returns-in_err-measured-in-Standing-clause-told g c =
     let s = view c.args.self.now.season.now in
     let x = c.args.self.now.site.now in
     let t = g.M.Meter.table c.args.meter.now in
@@ -22,34 +22,30 @@ returns-in_err-measured-in-Standing g c =
     let p = err_from_is_err_and c.from_residual.result c.from_residual.ensures.1 in
     let is : c.from_residual.result ≡ Err f = p.1 ∙ ap Err p.2 in
     let fault = standing_fault s x t c.args.day c.in-Standing.event c.args.number held c.requires.number f c.in_err-measured-in-Standing.ensures.answer in
-    record {
-      told = subst (DayTold s x t c.args.day list list) (sym is) fault;
-      keeps = c.measure_standing.ensures.keeps;
-    }
+    subst (DayTold s x t c.args.day list list) (sym is) fault
 
-pub push_event-requires : goal.push_event-requires
-push_event-requires g c =
+pub push_event-requires-clause-room : goal.push_event-requires-clause-room
+push_event-requires-clause-room g c =
     let s = view c.args.self.now.season.now in
-    let x = c.args.self.now.site.now in
     let t = g.M.Meter.table c.args.meter.now in
-    let m = c.in_ok-measured-in-Standing.measured in
     let held : day_at s c.args.day ≡ Standing c.in-Standing.event = ap (day_at s) (sym c.from.ensures) ∙ sym c.day.ensures.is ∙ c.in-Standing.is in
-    let told = c.in_ok-measured-in-Standing.ensures.answer in
-    let count = count_of s x t c.args.day c.in-Standing.event c.args.number held c.requires.number m told in
-    record {
-      room = omega (arith, count, c.requires.room);
-      bounds = c.in_ok-measured-in-Standing.ensures.bounds;
-      days = λ k h. days_within s x t c.args.day c.in-Standing.event c.args.number held c.requires.number m told c.requires.day k;
-      weeks = subst (λ (y : ℕ). AllByRecursion (InYear y) (listed c.args.list.now)) (sym c.year.ensures) c.requires.weeks;
-    }
+    let count = count_of s c.args.self.now.site.now t c.args.day c.in-Standing.event c.args.number held c.requires.number c.in_ok-measured-in-Standing.measured c.in_ok-measured-in-Standing.ensures.answer in
+    omega (arith, count, c.requires.room)
+
+pub push_event-requires-clause-days : goal.push_event-requires-clause-days
+push_event-requires-clause-days g c k h =
+    let s = view c.args.self.now.season.now in
+    let t = g.M.Meter.table c.args.meter.now in
+    let held : day_at s c.args.day ≡ Standing c.in-Standing.event = ap (day_at s) (sym c.from.ensures) ∙ sym c.day.ensures.is ∙ c.in-Standing.is in
+    days_within s c.args.self.now.site.now t c.args.day c.in-Standing.event c.args.number held c.requires.number c.in_ok-measured-in-Standing.measured c.in_ok-measured-in-Standing.ensures.answer c.requires.day k
 
 pub overflow_add-result : goal.overflow_add-result
 overflow_add-result g c =
     let few = standing_few (view c.args.self.now.season.now).days c.args.day in
     omega (arith, few, c.requires.number)
 
-pub returns-in_ok-measured-in-Standing : goal.returns-in_ok-measured-in-Standing
-returns-in_ok-measured-in-Standing g c =
+pub returns-in_ok-measured-in-Standing-clause-told : goal.returns-in_ok-measured-in-Standing-clause-told
+returns-in_ok-measured-in-Standing-clause-told g c =
     let s = view c.args.self.now.season.now in
     let x = c.args.self.now.site.now in
     let t = g.M.Meter.table c.args.meter.now in
@@ -57,10 +53,7 @@ returns-in_ok-measured-in-Standing g c =
     let after = c.push_event.new.list in
     let held : day_at s c.args.day ≡ Standing c.in-Standing.event = ap (day_at s) (sym c.from.ensures) ∙ sym c.day.ensures.is ∙ c.in-Standing.is in
     let weeks = subst (λ (y : ℕ). AllByRecursion (InYear y) (listed after)) c.year.ensures c.push_event.ensures.weeks in
-    record {
-      told = standing_day s x t c.args.day c.in-Standing.event c.args.number held c.requires.number m c.args.list.now after c.in_ok-measured-in-Standing.ensures.answer c.push_event.ensures.counts c.push_event.ensures.hours weeks;
-      keeps = c.measure_standing.ensures.keeps;
-    }
+    standing_day s x t c.args.day c.in-Standing.event c.args.number held c.requires.number m c.args.list.now after c.in_ok-measured-in-Standing.ensures.answer c.push_event.ensures.counts c.push_event.ensures.hours weeks
 
 pub returns-in-NoEvent : goal.returns-in-NoEvent
 returns-in-NoEvent g c =

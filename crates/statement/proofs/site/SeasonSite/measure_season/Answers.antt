@@ -27,17 +27,9 @@ loop-day-init g c =
       λ k h. let z : ⊥ = omega arith in absurd z,
     )
 
-pub measure_day-requires : goal.measure_day-requires
-measure_day-requires g c =
-    let s = view c.args.self.now.season.now in
-    let inv = c.loop-day.invariant in
-    let d = c.loop-day.day in
-    record {
-      day = omega arith;
-      number = inv.1;
-      room = room_for_day s d (length (listed c.loop-day.list)) (omega arith) c.stays_sound.ensures.overall inv.2;
-      weeks = inv.4;
-    }
+pub measure_day-requires-clause-room : goal.measure_day-requires-clause-room
+measure_day-requires-clause-room g c =
+    room_for_day (view c.args.self.now.season.now) c.loop-day.day (length (listed c.loop-day.list)) (omega arith) c.stays_sound.ensures.overall c.loop-day.invariant.2
 
 pub returns-in_err-number : goal.returns-in_err-number
 returns-in_err-number g c =

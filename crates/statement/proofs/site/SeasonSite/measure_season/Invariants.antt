@@ -1,4 +1,4 @@
-use Rattle.std.proofs.Common.{◌≡◌, ℕ, ◌+◌, ◌<◌, ◌≤◌, map, length, None}
+use Rattle.std.proofs.Common.{◌≡◌, ℕ, ◌<◌, map, length, None}
 use Rattle.std.specs.List.{AllByRecursion}
 use Rattle.tariff.specs.Events.{event_number, event_hours_before, hours_before}
 use Rattle.tariff.specs.Measure.{measured}
