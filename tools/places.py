@@ -89,6 +89,22 @@ def proofs():
     return found
 
 
+def general():
+    """Lemmas whose statement names nothing of the repository: the library may have them."""
+    found = []
+    for path in sorted(ROOT.glob("crates/*/proofs/*.antt")):
+        text = path.read_text()
+        ours = set()
+        for use in re.finditer(r"use Rattle\.(\w+)\.[^\n{]*\{([^}]*)\}", text):
+            if use.group(1) != "std":
+                ours |= {name.strip().split(" as ")[-1].strip("◌ ") for name in use.group(2).split(",")}
+        ours |= set(re.findall(r"^(?:abbrev |unfoldable )?(?:pub )?([\w'-]+) :", text, re.M))
+        for lemma in re.finditer(r"^(?:pub )?([\w'-]+) : (.*(?:\n    .*)*)", text, re.M):
+            if not set(re.findall(r"[A-Za-z_][\w'-]*", lemma.group(2))) & (ours - {lemma.group(1)}):
+                found.append(f"{path.relative_to(ROOT / 'crates')}: {lemma.group(1)} : " + " ".join(lemma.group(2).split()))
+    return found
+
+
 POINTS = {
     "1": lambda: lines(r"^ *(pub(\(crate\))? )?enum \w+") + lines(r"&mut .*-> bool|\b(kind|weekday): u\d+|fn (kind_\w+|weekday)\(.*-> (Result<)?u32"),
     "2": twins,
@@ -97,7 +113,7 @@ POINTS = {
     "5": lambda: facts() + parameters(),
     "6": lambda: lines(r"^ +(pub(\(crate\))? )?(count|len): (u8|usize),|^ +(pub )?(first|second|meter): usize,|: Vec<Vec<|: &mut Vec<bool>|let mut count\b"),
     "7": lambda: lines(r"\bdyn |: fn\(|\b(mark|figure|keyword|form|kind): (Mark|Figure|Keyword|Form|MeterForm|TableKind)\b"),
-    "8": proofs,
+    "8": lambda: proofs() + general(),
 }
 
 if len(sys.argv) < 2 or (sys.argv[1] not in POINTS and sys.argv[1] != "all"):

@@ -1,5 +1,5 @@
 -- What one day leaves: nothing where no event stands, and else its hours or its fault.
-use Rattle.std.proofs.Common.{◌≡◌, ℕ, zero, suc, ◌+◌, ◌-◌, ◌≤◌, false, cond, List, [], ◌∷◌, ◌++◌, map, length, get_or, take, replicate, Some, None, Ok, Err, Option, sym, refl, ap, ◌∙◌, subst, ap₂, append-nil, arith}
+use Rattle.std.proofs.Common.{◌≡◌, ℕ, zero, suc, ◌+◌, ◌-◌, ◌≤◌, false, cond, ◌⊎◌, inl, inr, List, [], ◌∷◌, ◌++◌, map, length, get_or, take, replicate, Some, None, Ok, Err, Option, sym, refl, ap, ◌∙◌, subst, ap₂, append-nil, arith}
 use lib.ListN.{length-map}
 use Rattle.std.specs.List.{range_with_len, AllByRecursion}
 use Rattle.std.proofs.lemmas.List.FromFn.{length-range_with_len}
@@ -14,7 +14,7 @@ use Rattle.tariff.specs.Tables.{Table}
 use Rattle.tariff.proofs.EventHours.{standing_more}
 use Rattle.tariff.specs.declared.fault.BaselineFault.{BaselineFault}
 use Rattle.tariff.specs.declared.season.Day.{Day}
-use Rattle.tariff.specs.declared.season.Day.TheVariants.{Standing}
+use Rattle.tariff.specs.declared.season.Day.TheVariants.{NoEvent, Standing, Revoked}
 use Rattle.tariff.specs.declared.season.Event.{Event}
 use Rattle.tariff.specs.declared.season.Site.{Site}
 use Rattle.tariff.specs.declared.statement.EventFault.{EventFault}
@@ -44,22 +44,28 @@ next_number_lem s d held e =
     ap (λ n. n + 1) (standing_more s.days d ∙ ap (λ day. standing_before s.days d + cond (stands day) 1 0) e)
 
 -- a day on which no event stands
-pub quiet_day : (s : Season) (x : Site) (t : Table) (d : ℕ) (held : Day) (list : HourList) (number : ℕ) →
-    day_at s d ≡ held →
-    stands held ≡ false →
-    day_hours held ≡ 0 →
-    ((n : ℕ) → hours_on n d held ≡ []) →
+no_hours : (held : Day) → stands held ≡ false → (day_hours held ≡ 0) × ((n d : ℕ) → hours_on n d held ≡ [])
+no_hours NoEvent h = (refl, λ n d. refl)
+no_hours (Standing e) h = let z : ◌≡◌ {A = ℕ} 0 1 = cc in absurd (omega arith)
+no_hours (Revoked e) h = (refl, λ n d. refl)
+
+pub stands_not : (held : Day) → (held ≡ NoEvent) ⊎ ((e : Event) × (held ≡ Revoked e)) → stands held ≡ false
+stands_not held (inl h) = ap stands h
+stands_not held (inr (e, h)) = ap stands h
+
+pub quiet_day : (s : Season) (x : Site) (t : Table) (d : ℕ) (list : HourList) (number : ℕ) →
+    standing s d ≡ false →
     number ≡ event_number s.days d →
-    number ≤ d + 1 →
     AllByRecursion (InYear s.year) (listed list) →
     DayMeasured s x t d list list number
-quiet_day s x t d held list number e none zero-hours no_hours en low weeks =
+quiet_day s x t d list number none en weeks =
+    let quiet = no_hours (day_at s d) none in
+    let zero_more : ◌≡◌ {A = ℕ} (cond {A = ℕ} (standing s d) 1 0) 0 = cond-false {A = ℕ} (standing s d) 1 0 none in
     record {
-      answered = cond-false (standing s d) _ _ (ap stands e ∙ none);
-      number = let zero_more : ◌≡◌ {A = ℕ} (cond {A = ℕ} (stands held) 1 0) 0 = cond-false {A = ℕ} (stands held) 1 0 none in omega (arith, next_number_lem s d held e);
-      low = omega arith;
-      counts = omega (arith, ap day_hours e);
-      hours = sym (ap (λ hs. measured_of_list list ++ map (measured s x t) hs) (ap (hours_on (event_number s.days d) d) e ∙ no_hours (event_number s.days d)) ∙ append-nil (measured_of_list list));
+      answered = cond-false (standing s d) _ _ none;
+      number = omega (arith, zero_more, next_number_lem s d (day_at s d) refl);
+      counts = omega (arith, quiet.0);
+      hours = sym (ap (λ hs. measured_of_list list ++ map (measured s x t) hs) (quiet.1 (event_number s.days d) d) ∙ append-nil (measured_of_list list));
       weeks = weeks;
     }
 
@@ -104,12 +110,11 @@ module _ (s : Season) (x : Site) (t : Table) (d : ℕ) (e : Event) (number : ℕ
 
   -- what its hours leave
   pub standing_day : (m : MeasuredEvent) (before after : HourList) → Ok m ≡ standing_measured s x t number d e →
-      number ≤ d + 1 →
       length (listed after) ≡ length (listed before) + m.count →
       measured_of_list after ≡ measured_of_list before ++ take m.count m.hours →
       AllByRecursion (InYear s.year) (listed after) →
       DayMeasured s x t d before after (number + 1)
-  standing_day m before after p low counts hours weeks =
+  standing_day m before after p counts hours weeks =
       let whole = measured_whole m p in
       let hs : List MeasuredHour = map (measured s x t) (hours_on number d (Standing e)) in
       let taken : take m.count m.hours ≡ hs = ap (λ v. take v.count v.hours) whole.1 ∙ hours_back hs in
@@ -117,7 +122,6 @@ module _ (s : Season) (x : Site) (t : Table) (d : ℕ) (e : Event) (number : ℕ
       record {
         answered = cond-true (standing s d) _ _ (ap stands held) ∙ ap (numbered (event_number s.days d)) whole.0;
         number = omega (arith, next_number_lem s d (Standing e) held);
-        low = omega arith;
         counts = omega (arith, count_of m p);
         hours = hours ∙ ap (λ rest. measured_of_list before ++ rest) (taken ∙ same);
         weeks = weeks;

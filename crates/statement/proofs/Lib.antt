@@ -1,6 +1,5 @@
 pub mod Days
 pub mod Standing
-pub mod Pushed
 pub mod DayByDay
 pub mod SeasonHours
 pub mod Settled

@@ -1,12 +1,12 @@
 -- The hours of a season's days, one after another.
-use Rattle.std.proofs.Common.{◌≡◌, ℕ, zero, suc, ◌+◌, ◌-◌, ◌<◌, ◌≤◌, List, ◌++◌, map, length, Some, None, sym, ap, ◌∙◌, arith}
+use Rattle.std.proofs.Common.{◌≡◌, ℕ, zero, suc, ◌+◌, ◌-◌, ◌<◌, ◌≤◌, Bool, true, false, cond, List, ◌++◌, map, length, Some, None, sym, ap, ◌∙◌, add-one, arith}
 use mathlib.Core.List.{map-append}
-use Rattle.tariff.specs.Events.{day_hours, event_number, event_hours_before, hours_before, hours_on}
+use Rattle.tariff.specs.Events.{stands, day_in, day_hours, standing_before, event_number, event_hours_before, hours_before, hours_on}
 use Rattle.tariff.specs.Measure.{measured}
 use Rattle.tariff.specs.Season.{Season, day_at, season_event_hours}
 use Rattle.tariff.specs.Statement.{day_refusal, season_fault}
 use Rattle.tariff.specs.Tables.{Table}
-use Rattle.tariff.proofs.EventHours.{hours_more, event_hours_more}
+use Rattle.tariff.proofs.EventHours.{standing_none, standing_more, hours_more, event_hours_more}
 use Rattle.tariff.specs.declared.season.Day.{Day}
 use Rattle.tariff.specs.declared.season.Site.{Site}
 use Rattle.tariff.specs.declared.statement.StatementRefusal.{StatementRefusal}
@@ -14,6 +14,17 @@ use Rattle.baseline.proofs.FirstSome.{none_counted, first_counted}
 use Rattle.pay.specs.Listed.{listed}
 use Rattle.pay.specs.declared.list.HourList.{HourList}
 use Rattle.statement.specs.Measured.{measured_of_list, DayMeasured}
+
+-- on no more days than there are does an event stand
+pub standing_few : (days : List Day) (n : ℕ) → standing_before days n ≤ n
+standing_few days zero = omega (arith, standing_none days)
+standing_few days (suc n) =
+    let step = ap (standing_before days) (sym (add-one n)) ∙ standing_more days n in
+    omega (arith, step, standing_few days n, at_most_one (stands (day_in days n)))
+  where
+    at_most_one : (b : Bool) → cond b 1 0 ≤ 1
+    at_most_one true = omega arith
+    at_most_one false = omega arith
 
 hours_rise : (days : List Day) (m k : ℕ) → hours_before days m ≤ hours_before days (m + k)
 hours_rise days m zero = let same : m + 0 ≡ m = omega arith in omega (arith, ap (hours_before days) same)

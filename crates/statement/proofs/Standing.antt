@@ -1,6 +1,7 @@
 -- An event that is measured by its span, over its days, is measured as the tariff says.
-use Rattle.std.proofs.Common.{◌≡◌, ℕ, ◌/◌, List, [], ◌∷◌, map, Result, refl, ap, ◌∙◌}
+use Rattle.std.proofs.Common.{◌≡◌, ℕ, ◌/◌, List, [], ◌∷◌, map, Ok, Err, Result, MatchResult, IsErrAnd, refl, ap, ◌∙◌}
 use Rattle.std.specs.List.{range_with_len}
+use Rattle.std.proofs.lemmas.Result.{err_from_is_err_and}
 use Rattle.tariff.specs.Calendar.{minute_of, week_of}
 use Rattle.tariff.specs.Comparison.{comparison_days}
 use Rattle.tariff.specs.Events.{event_hour, event_of, hours_on}
@@ -16,7 +17,9 @@ use Rattle.tariff.specs.declared.season.Site.{Site}
 use Rattle.baseline.specs.Days.{fault_or}
 use Rattle.baseline.specs.Measuring.{event_of_hours, event_measured}
 use Rattle.baseline.specs.declared.measured.MeasuredEvent.{MeasuredEvent}
+use Rattle.tariff.specs.declared.statement.EventFault.{EventFault}
 use Rattle.baseline.specs.declared.span.EventSpan.{EventSpan}
+use Rattle.statement.specs.Measured.{with_number}
 
 -- an event measured by plain numbers
 plain : Table → List ℕ → ℕ → ℕ → ℕ → ℕ → ℕ → ℕ → Result MeasuredEvent BaselineFault
@@ -54,3 +57,8 @@ span_measured s x t number d e span days nominated stands ed en e1 e2 e3 e4 e5 =
     let last = as_the_season_says s x t number d e in
     let middle : plain t days nominated span.number span.day span.notice span.start span.length ≡ plain t (comparison_days s d) (nomination_on s x d) number d (notice_hour s d) e.start e.length = cc in
     first ∙ middle ∙ last
+
+-- a fault that was given its event's number
+pub numbered_by : (number : ℕ) (r : Result MeasuredEvent BaselineFault) (q : Result MeasuredEvent EventFault) (Gives : BaselineFault → EventFault → Type 0) → ((f : BaselineFault) (e : EventFault) → Gives f e → e ≡ record { event = number; fault = f }) → MatchResult r (λ m. q ≡ Ok m) (λ f. IsErrAnd q (Gives f)) → q ≡ with_number number r
+numbered_by number (Ok m) q Gives own h = h
+numbered_by number (Err f) q Gives own h = let p = err_from_is_err_and q h in p.1 ∙ ap Err (own f p.0 p.2)

@@ -1,5 +1,5 @@
 -- What a list of measured hours holds.
-use Rattle.std.specs.Prelude.{◌≡◌, ℕ, ◌+◌, ◌≤◌, List, ◌++◌, map, length, Some, None, Ok, Err, Result}
+use Rattle.std.specs.Prelude.{◌≡◌, ℕ, ◌+◌, List, ◌++◌, map, length, Some, None, Ok, Err, Result}
 use Rattle.std.specs.List.{AllByRecursion}
 use Rattle.tariff.specs.Calendar.{week_of}
 use Rattle.tariff.specs.Events.{hours_on, day_hours, event_number}
@@ -49,7 +49,6 @@ standing_measured s x t number d e =
 pub record DayMeasured (s : Season) (x : Site) (t : Table) (d : ℕ) (before after : HourList) (next : ℕ) : Type 0 where
   pub answered : day_refusal s t d ≡ None
   pub number : next ≡ event_number s.days (d + 1)
-  pub low : next ≤ d + 2
   pub counts : length (listed after) ≡ length (listed before) + day_hours (day_at s d)
   pub hours : measured_of_list after ≡ measured_of_list before ++ map (measured s x t) (hours_on (event_number s.days d) d (day_at s d))
   pub weeks : AllByRecursion (InYear s.year) (listed after)

@@ -1,10 +1,10 @@
 ghost use Rattle.std.specs.Prelude.{◌≡◌, ℕ, true, OnOk};
-ghost use Rattle.tariff.specs.Lines.{Both, NoWorse, OthersKept};
+ghost use Rattle.tariff.specs.Laws.{DeeperCutNeverCosts, EventsStandApart};
+ghost use Rattle.tariff.specs.Lines.{NoWorse, OthersKept};
 ghost use Rattle.tariff.specs.Readings.{Deeper, OnlyDay};
 ghost use Rattle.tariff.specs.Season.{standing};
-ghost use Rattle.tariff.specs.Statement.{outcome};
 ghost use Rattle.season.specs.View.{view};
-ghost use Rattle.statement.specs.Compared.{both_of, first_after, hours_of_both, second_after, WrittenSo};
+ghost use Rattle.statement.specs.Compared.{first_after, hours_of_both, outcome_of_both, second_after};
 
 use crate::both::TwoStatements;
 use crate::settle::settle;
@@ -20,22 +20,15 @@ fn settle_both<M: Meter, N: Meter>(
     first: &mut M,
     second: &mut N,
 ) -> Result<TwoStatements, StatementRefusal>
-    ensures answer { result ≡ both_of (outcome (view season.now) site (M.table first.old)) (outcome (view season.now) site (N.table second.old)) }
+    ensures answer { result ≡ outcome_of_both (view season.now) site (M.table first.old) (N.table second.old) }
     ensures keeps_first { M.table first.new ≡ M.table first.old }
     ensures keeps_second { N.table second.new ≡ N.table second.old }
-    ensures deeper_cut_never_costs { Deeper (view season.now) (M.table first.old) (N.table second.old) → Both NoWorse (outcome (view season.now) site (M.table first.old)) (outcome (view season.now) site (N.table second.old)) }
-    ensures events_stand_apart { (day : ℕ) → standing (view season.now) day ≡ true → OnlyDay day (M.table first.old) (N.table second.old) → Both (OthersKept day) (outcome (view season.now) site (M.table first.old)) (outcome (view season.now) site (N.table second.old)) }
-    ensures no_worse { Deeper (view season.now) (M.table first.old) (N.table second.old) → WrittenSo NoWorse result }
-    ensures others_kept { (day : ℕ) → standing (view season.now) day ≡ true → OnlyDay day (M.table first.old) (N.table second.old) → WrittenSo (OthersKept day) result }
 {
-    deeper_cut_never_costs();
-    events_stand_apart();
-    season.stays_sound();
-    let (one, hours) = settle(season, site, first)?;
-    let (two, _) = settle(season, site, second)?;
+    let (first, hours) = settle(season, site, first)?;
+    let (second, _) = settle(season, site, second)?;
     Ok(TwoStatements {
-        first: one,
-        second: two,
+        first,
+        second,
         hours,
     })
 }
@@ -52,16 +45,19 @@ pub fn compare<M: Meter, N: Meter>(
     one: &mut Statement,
     two: &mut Statement,
 ) -> Result<u32, StatementRefusal>
-    ensures answer { result ≡ hours_of_both (both_of (outcome (view season.now) site (M.table first.old)) (outcome (view season.now) site (N.table second.old))) }
-    ensures one { one.new ≡ first_after one.old (both_of (outcome (view season.now) site (M.table first.old)) (outcome (view season.now) site (N.table second.old))) }
-    ensures two { two.new ≡ second_after two.old (both_of (outcome (view season.now) site (M.table first.old)) (outcome (view season.now) site (N.table second.old))) }
+    ensures answer { result ≡ hours_of_both (outcome_of_both (view season.now) site (M.table first.old) (N.table second.old)) }
+    ensures one { one.new ≡ first_after one.old (outcome_of_both (view season.now) site (M.table first.old) (N.table second.old)) }
+    ensures two { two.new ≡ second_after two.old (outcome_of_both (view season.now) site (M.table first.old) (N.table second.old)) }
     ensures keeps_first { M.table first.new ≡ M.table first.old }
     ensures keeps_second { N.table second.new ≡ N.table second.old }
-    ensures deeper_cut_never_costs { Deeper (view season.now) (M.table first.old) (N.table second.old) → Both NoWorse (outcome (view season.now) site (M.table first.old)) (outcome (view season.now) site (N.table second.old)) }
-    ensures events_stand_apart { (day : ℕ) → standing (view season.now) day ≡ true → OnlyDay day (M.table first.old) (N.table second.old) → Both (OthersKept day) (outcome (view season.now) site (M.table first.old)) (outcome (view season.now) site (N.table second.old)) }
+    ensures deeper_cut_never_costs { DeeperCutNeverCosts (view season.now) }
+    ensures events_stand_apart { EventsStandApart (view season.now) }
     ensures no_worse { Deeper (view season.now) (M.table first.old) (N.table second.old) → OnOk result (NoWorse one.new two.new) }
     ensures others_kept { (day : ℕ) → standing (view season.now) day ≡ true → OnlyDay day (M.table first.old) (N.table second.old) → OnOk result (OthersKept day one.new two.new) }
 {
+    deeper_cut_never_costs();
+    events_stand_apart();
+    season.stays_sound();
     let both = settle_both(season, site, first, second)?;
     *one = both.first;
     *two = both.second;

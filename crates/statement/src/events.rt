@@ -8,14 +8,14 @@ ghost use Rattle.baseline.specs.Measuring.{Bounded};
 ghost use Rattle.season.specs.View.{view};
 ghost use Rattle.statement.specs.Measured.{standing_measured};
 
-use crate::weeks::nomination_on;
+use crate::site::SeasonSite;
 use baseline::days::ComparisonDays;
 use baseline::event::measure_event;
 use baseline::measured::MeasuredEvent;
 use baseline::span::EventSpan;
 use meter::meter::Meter;
 use season::Season;
-use tariff::season::{Event, Site};
+use tariff::season::Event;
 use tariff::statement::EventFault;
 
 // The days that a standing event is compared with.
@@ -48,29 +48,27 @@ pub(crate) fn span_of(number: u8, day: u8, event: Event) -> EventSpan
     }
 }
 
-// Measures the event that stands on a day, for a site: the days to compare with are read first, then the event's own day.
-pub(crate) fn measure_standing<M: Meter>(
-    season: &Season,
-    site: &Site,
-    meter: &mut M,
-    day: u8,
-    event: Event,
-    number: u8,
-) -> Result<MeasuredEvent, EventFault>
-    requires stands { day_at (view season.now) day ≡ Standing event }
-    requires fit { Fit (view season.now).year day event }
-    ensures answer { result ≡ standing_measured (view season.now) site.now (M.table meter.old) number day event }
-    ensures bounds { IfOk result Bounded }
-    ensures keeps { M.table meter.new ≡ M.table meter.old }
-{
-    let days = comparison_of(season, day);
-    let span = span_of(number, day, event);
-    let nominated = nomination_on(season.year(), site, day);
-    match measure_event(meter, &days, &span, nominated) {
-        Ok(measured) => Ok(measured),
-        Err(fault) => Err(EventFault {
+impl SeasonSite<'_> {
+    // Measures the event that stands on a day, for the site: the days to compare with are read first, then the event's own day.
+    pub(crate) fn measure_standing<M: Meter>(
+        &self,
+        meter: &mut M,
+        day: u8,
+        event: Event,
+        number: u8,
+    ) -> Result<MeasuredEvent, EventFault>
+        requires stands { day_at (view self.now.season.now) day ≡ Standing event }
+        requires fit { Fit (view self.now.season.now).year day event }
+        ensures answer { result ≡ standing_measured (view self.now.season.now) self.now.site.now (M.table meter.old) number day event }
+        ensures bounds { IfOk result Bounded }
+        ensures keeps { M.table meter.new ≡ M.table meter.old }
+    {
+        let days = comparison_of(self.season, day);
+        let span = span_of(number, day, event);
+        let nominated = self.nomination_on(day);
+        measure_event(meter, &days, &span, nominated).map_err(|fault| EventFault {
             event: number,
             fault,
-        }),
+        })
     }
 }

@@ -26,6 +26,7 @@ fn placed(year: u32, hour: MeasuredHour) -> PlacedHour
 }
 
 // Adds the hours of a measured event to a list that has room for them, each with its week.
+// That the weeks are those of a year is a clause: a list that held its year would need one too, to say which year that is.
 pub(crate) fn push_event(list: &mut HourList, year: u32, event: &MeasuredEvent)
     requires room { length (listed list.old) + event.now.count ≤ 60 }
     requires bounds { Bounded event.now }
@@ -35,8 +36,7 @@ pub(crate) fn push_event(list: &mut HourList, year: u32, event: &MeasuredEvent)
     ensures hours { measured_of_list list.new ≡ measured_of_list list.old ++ take event.now.count event.now.hours }
     ensures weeks { AllByRecursion (InYear year) (listed list.new) }
 {
-    for k in 0..event.count {
-        let hour = placed(year, event.hours[k as usize]);
-        let _ = list.push(hour);
+    for hour in &event.hours[..event.count as usize] {
+        let _ = list.push(placed(year, *hour));
     }
 }

@@ -8,4 +8,5 @@ pub mod hours;
 pub mod measure;
 pub mod request;
 pub mod settle;
+pub mod site;
 pub mod weeks;

@@ -7,31 +7,11 @@ use meter::table::HourlyMeter;
 use season::Season;
 use statement::request::statement;
 use std::env;
-use tariff::call::{Answer, Call, SeasonRefusal};
-use tariff::statement::{HourLine, Statement, WeekLine};
+use tariff::call::SeasonRefusal;
+use tariff::statement::Statement;
 
 // Three days in each of five weeks of 2015.
 const DAYS: [u32; 15] = [14, 15, 16, 21, 22, 23, 28, 29, 30, 35, 36, 37, 42, 43, 44];
-
-const NO_HOUR: HourLine = HourLine {
-    event: 0,
-    day: 0,
-    hour: 0,
-    base: 0,
-    adjusted: 0,
-    reduction: 0,
-    shortfall: 0,
-    energy: 0,
-    adjustment: 0,
-};
-
-const NO_WEEK: WeekLine = WeekLine {
-    nomination: 0,
-    hours: 0,
-    counted: 0,
-    days: 0,
-    capacity: 0,
-};
 
 // A closed season of 2015 with one site at 60 kW and some events from 14:00 to 18:00, announced at noon.
 fn closed_season(events: usize) -> Result<Season, SeasonRefusal> {
@@ -50,35 +30,18 @@ fn run(rt: &HostRuntime) -> anyhow::Result<()> {
         Some(word) => word.as_str().parse::<usize>()?,
         None => 15,
     };
-    let Ok(season) = closed_season(events) else {
-        return Err(anyhow!("a call of the season was refused"));
-    };
+    let season = closed_season(events).map_err(|_| anyhow!("a call of the season was refused"))?;
     let cells = vec![in rt.alloc(); 305_000; 1824]?;
     let mut meter = HourlyMeter {
         cells: cells.as_slice(),
         number: 1,
     };
-    let mut record = Statement {
-        hours: [NO_HOUR; 60],
-        weeks: [NO_WEEK; 10],
-        incentive: 0,
-        charged: 0,
-        taken: 0,
-        net: 0,
-        paid: 0,
-    };
+    let mut record = Statement::default();
     match statement(&season, 1, &mut meter, &mut record) {
-        Ok(hours) => {
-            let paid = record.paid;
-            println!(rt; "{hours} event hours, paid {paid} cents")?;
-            Ok(())
-        }
-        Err(refusal) => {
-            let number = refusal.number();
-            println!(rt; "refused with number {number}")?;
-            Ok(())
-        }
+        Ok(hours) => println!(rt; "{hours} event hours, paid {} cents", record.paid)?,
+        Err(refusal) => println!(rt; "refused with number {}", refusal.number())?,
     }
+    Ok(())
 }
 
 fn main(rt: HostRuntime) -> anyhow::Result<()> {
