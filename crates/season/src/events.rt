@@ -35,17 +35,14 @@ pub(crate) fn is_announced(day: Day) -> bool
 pub(crate) fn stands(day: Day) -> bool
     ensures { result ≡ spec.stands day }
 {
-    matches!(day, Day::Standing(_))
+    day.standing().is_some()
 }
 
 // How many hours of a day stand.
 fn day_hours(day: Day) -> u8
     ensures { result ≡ spec.day_hours day }
 {
-    match day {
-        Day::Standing(event) => event.length,
-        Day::NoEvent | Day::Revoked(_) => 0,
-    }
+    day.standing().map_or(0, |event| event.length)
 }
 
 // A cell for each day of the summer, so that no day has two events.

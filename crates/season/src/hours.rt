@@ -63,7 +63,7 @@ impl EventHours {
         ensures list { hours_listed self.new ≡ hours_listed self.old ++ hours_on number day held }
         ensures more { self.new.count ≡ self.old.count + day_hours held }
     {
-        if let Day::Standing(event) = held {
+        if let Some(event) = held.standing() {
             self.push_event(number, day, event);
         }
     }

@@ -7,17 +7,6 @@ ghost use Rattle.season.specs.Blank.{Blank};
 
 use tariff::season::{Kind, Site};
 
-// The kind that a number stands for, where it stands for one.
-pub(crate) fn kind_from(number: u32) -> Option<Kind>
-    ensures { result ≡ (if nat_lt 1 number then None else Some (kinds.kind_of number)) }
-{
-    match number {
-        0 => Some(Kind::Single),
-        1 => Some(Kind::Aggregated),
-        _ => None,
-    }
-}
-
 // The least nomination of a site of a kind, in kW.
 fn least_kw(kind: Kind) -> u32
     ensures { result ≡ kinds.least_kw kind }

@@ -9,7 +9,7 @@ ghost use Rattle.season.specs.View.{view};
 
 use super::Season;
 use crate::events::{is_announced, is_hours_outside, is_notice_outside};
-use crate::sites::{is_figure_outside, kind_from};
+use crate::sites::is_figure_outside;
 use calendar::{business, deadline, in_season, last_week, week_of};
 use tariff::call::SeasonRefusal;
 use tariff::season::{Day, Event, Kind};
@@ -45,7 +45,7 @@ impl Season {
         if moment >= 20_160 {
             return Err(SeasonRefusal::EnrolmentTooLate);
         }
-        let kind = kind_from(kind).ok_or(SeasonRefusal::NoSuchKind)?;
+        let kind = Kind::try_from(kind)?;
         if self.sites.len() >= 64 {
             return Err(SeasonRefusal::SitesFull);
         }
@@ -121,9 +121,8 @@ impl Season {
         ensures event { IfOk result (λ e. (moment ≤ 109439) × (e ≡ event_of (day_at (view self.now) (day_of moment)))) }
     {
         self.check_moment(moment)?;
-        let Day::Standing(event) = self.events.at(moment / 1440) else {
-            return Err(SeasonRefusal::NoEventStands);
-        };
+        let day = self.events.at(moment / 1440);
+        let event = day.standing().ok_or(SeasonRefusal::NoEventStands)?;
         if 60 * u32::from(event.start) < moment % 1440 + 30 {
             return Err(SeasonRefusal::RevocationTooLate);
         }
