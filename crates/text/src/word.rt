@@ -1,6 +1,6 @@
-ghost use Rattle.std.specs.Prelude.{◌≡◌, reverse};
+ghost use Rattle.std.specs.Prelude.{◌≡◌, ◌<◌, ◌^◌, length, reverse};
 ghost use Rattle.std.specs.Option.{option_map};
-ghost use Rattle.text.specs.Pieces.{unblanked, trimmed, first_word, next_word};
+ghost use Rattle.text.specs.Pieces.{unblanked, trimmed, first_word, next_word, between_blanks};
 ghost use Rattle.text.specs.Stops.{parts_of};
 
 use crate::cut::{cut, is_mark};
@@ -53,4 +53,38 @@ pub fn trim(line: &str) -> &str
     ensures { result.now ≡ trimmed line.now }
 {
     unblank_end(unblank(line))
+}
+
+// The words between the blanks of a text, one after another.
+#[derive(Clone, Copy)]
+pub struct Words<'a> {
+    rest: &'a str,
+    // So that a count of the words fits.
+    ghost fits: { length (between_blanks rest.now) < 2 ^ 64 },
+}
+
+impl<'a> Words<'a> {
+    // The words of the text.
+    pub fn new(text: &'a str) -> Words<'a>
+        ensures { result.rest.now ≡ text.now }
+    {
+        Words { rest: text }
+    }
+}
+
+impl<'a> Iterator for Words<'a> {
+    ghost use Rattle.std.specs.Iterator.{YieldsFirstRef, item_count};
+    ghost use Rattle.text.specs.Left.{words_left};
+
+    type Item = &'a str;
+
+    ghost next_gives = { YieldsFirstRef words_left };
+
+    ghost remaining = { item_count words_left };
+
+    fn next(&mut self) -> Option<&'a str> {
+        let word = next_word(self.rest)?;
+        self.rest = word.rest;
+        Some(word.piece)
+    }
 }
