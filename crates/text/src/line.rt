@@ -14,6 +14,7 @@ pub struct Lines<'a> {
 
 impl<'a> Lines<'a> {
     // The lines of the text.
+    #[tactic(auto, using(crate::proofs::Cutting::pieces_fit))]
     pub fn new(text: &'a str) -> Lines<'a>
         ensures { result.rest.now ≡ text.now }
     {

@@ -65,6 +65,7 @@ pub struct Words<'a> {
 
 impl<'a> Words<'a> {
     // The words of the text.
+    #[tactic(auto, using(crate::proofs::Words::words_fit))]
     pub fn new(text: &'a str) -> Words<'a>
         ensures { result.rest.now ≡ text.now }
     {
