@@ -1,7 +1,11 @@
 -- Passing over the blanks at both ends of a line. Assumes nothing.
-use Rattle.std.proofs.Common.{◌≡◌, ℕ, ◌+◌, ◌-◌, ◌<◌, ◌≤◌, true, false, List, [], ◌∷◌, reverse, length, get_or, take, drop, IsUtf8, sym, refl, ap, ◌∙◌, arith}
-use Rattle.std.proofs.lemmas.List.{at_drop_more, at_drop_all, take_more, take_all, reverse-append, reverse-reverse}
+use Rattle.std.proofs.Common.{◌≡◌, ℕ, zero, suc, ◌+◌, ◌-◌, ◌<◌, ◌≤◌, Bool, true, false, not, cond, Some, None, subst, List, [], ◌∷◌, reverse, length, get_or, take, drop, IsUtf8, sym, refl, ap, ◌∙◌, arith}
+use Rattle.std.proofs.lemmas.List.{drop_all, take_more, take_all, reverse-append, reverse-reverse}
 use Rattle.std.proofs.lemmas.Str.{IsCharBoundary-start, IsCharBoundary-end, IsCharBoundary-before_ascii, IsCharBoundary-after_ascii}
+use Rattle.std.proofs.lemmas.List.Quantifiers.{position-Some}
+use Rattle.std.proofs.lemmas.Bool.{not-false}
+use Rattle.std.proofs.lemmas.Bool.Decides.{nat_tests}
+use Rattle.std.specs.List.{position, position_or_len}
 use Rattle.std.specs.Str.{IsCharBoundary}
 use Rattle.text.specs.Pieces.{blank, unblanked}
 use Rattle.text.proofs.Marks.{ascii_blank}
@@ -18,25 +22,37 @@ unblanked_nil : unblanked [] ≡ []
 unfolding unblanked
 unblanked_nil = refl
 
--- the first i bytes are blanks
-pub record Passed (bs : List ℕ) (i : ℕ) : Type 0 where
-  pub between : IsCharBoundary bs i
-  pub left : unblanked (drop i bs) ≡ unblanked bs
+-- a byte that is no blank
+abbrev solid_byte : ℕ → Bool
+solid_byte b = not (blank b)
 
-pub none_passed : (bs : List ℕ) → IsUtf8 bs → Passed bs 0
-none_passed bs u = record { between = IsCharBoundary-start bs u; left = refl }
+unblanked_is : (bs : List ℕ) → drop (position_or_len solid_byte bs) bs ≡ unblanked bs
+unfolding unblanked
+unblanked_is [] = refl
+unblanked_is (b ∷ bs) =
+    let more = unblanked_is bs in
+    let on : 1 + position_or_len solid_byte bs ≡ suc (position_or_len solid_byte bs) = omega arith in
+    elim (blank b) as (λ v. drop (cond (not (not v)) (1 + position_or_len solid_byte bs) 0) (b ∷ bs) ≡ cond v (unblanked bs) (b ∷ bs)) [ true ↦ ap (λ n. drop n (b ∷ bs)) on ∙ more | false ↦ refl ]
 
-pub one_passed : (bs : List ℕ) (i : ℕ) → IsUtf8 bs → i < length bs → blank (get_or bs i 0) ≡ true → Passed bs i → Passed bs (i + 1)
-one_passed bs i u lt e h = record {
-  between = IsCharBoundary-after_ascii bs i u lt (ascii_blank (get_or bs i 0) e);
-  left = sym (at_drop_more unblanked bs i 0 lt ∙ unblanked_yes _ _ e) ∙ h.left;
-}
+-- before the first byte that is no blank a text may be cut
+boundary_after_blanks : (bs : List ℕ) (i : ℕ) → IsUtf8 bs → i ≤ length bs → ((k : ℕ) → k < i → solid_byte (get_or bs k 0) ≡ false) → IsCharBoundary bs i
+boundary_after_blanks bs zero u fits before = IsCharBoundary-start bs u
+boundary_after_blanks bs (suc k) u fits before =
+    let e : blank (get_or bs k 0) ≡ true = not-false (blank (get_or bs k 0)) (before k (omega arith)) in
+    let next : k + 1 ≡ suc k = omega arith in
+    subst (IsCharBoundary bs) next (IsCharBoundary-after_ascii bs k u (omega arith) (ascii_blank (get_or bs k 0) e))
 
-pub word_begins : (bs : List ℕ) (i : ℕ) → i < length bs → blank (get_or bs i 0) ≡ false → Passed bs i → drop i bs ≡ unblanked bs
-word_begins bs i lt e h = at_drop_more (λ l. l) bs i 0 lt ∙ sym (at_drop_more unblanked bs i 0 lt ∙ unblanked_no _ _ e) ∙ h.left
+module _ (bs : List ℕ) (i : ℕ) (found : Some i ≡ position solid_byte bs) where
+  pub word_boundary : IsUtf8 bs → IsCharBoundary bs i
+  word_boundary u = let p = position-Some solid_byte bs i 0 (sym found) in let inside = p.0 in boundary_after_blanks bs i u (omega arith) p.2
 
-pub all_passed : (bs : List ℕ) (i : ℕ) → length bs ≤ i → Passed bs i → [] ≡ unblanked bs
-all_passed bs i le h = sym (at_drop_all unblanked bs i le ∙ unblanked_nil) ∙ h.left
+  pub word_begins : drop i bs ≡ unblanked bs
+  word_begins = let at_first : i ≡ position_or_len solid_byte bs = grind (arith, nat_tests) in ap (λ k. drop k bs) at_first ∙ unblanked_is bs
+
+pub all_blank : (bs : List ℕ) → None ≡ position solid_byte bs → [] ≡ unblanked bs
+all_blank bs none =
+    let at_end : length bs ≤ position_or_len solid_byte bs = grind (arith, nat_tests) in
+    sym (drop_all (position_or_len solid_byte bs) bs at_end) ∙ unblanked_is bs
 
 -- what is left of a line up to its last byte that is no blank
 abbrev pub to_last : List ℕ → List ℕ

@@ -4,3 +4,4 @@ pub mod Digits
 pub mod Blanks
 pub mod Written
 pub mod Stamps
+pub mod Words

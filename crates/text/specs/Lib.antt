@@ -1,4 +1,5 @@
 pub mod Pieces
 pub mod Numbers
 pub mod Stops
+pub mod Left
 pub mod Stamps

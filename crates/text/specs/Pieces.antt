@@ -47,9 +47,13 @@ solid ((b ∷ bs) ∷ ps) = (b ∷ bs) ∷ solid ps
 abbrev pub lines : List ℕ → List (List ℕ)
 lines text = pieces line_end text
 
+-- the words between the blanks of a text
+abbrev pub between_blanks : List ℕ → List (List ℕ)
+between_blanks text = solid (pieces blank text)
+
 -- the words of a line, up to its comment
 abbrev pub words : List ℕ → List (List ℕ)
-words bytes = solid (pieces blank (upto hash bytes))
+words bytes = between_blanks (upto hash bytes)
 
 -- what is left of a line from its first byte on that is no blank
 unfoldable pub unblanked : List ℕ → List ℕ

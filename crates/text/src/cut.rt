@@ -1,4 +1,5 @@
 ghost use Rattle.std.specs.Prelude.{◌≡◌};
+ghost use Rattle.std.specs.List.{position};
 ghost use Rattle.text.specs.Pieces.{upto, beyond};
 ghost use Rattle.text.specs.Stops.{stops_at};
 
@@ -16,25 +17,11 @@ pub(crate) fn is_mark(mark: Mark, byte: u8) -> bool
     }
 }
 
-// Cuts the text at the first byte that is the mark.
-fn cut_at_first(text: &str, mark: Mark) -> Parts<'_>
-    ensures piece { result.piece.now ≡ upto (stops_at mark) text.now }
-    ensures rest { result.rest.now ≡ beyond (stops_at mark) text.now }
+// The place of the first byte that is the mark.
+fn first_mark(text: &str, mark: Mark) -> Option<usize>
+    ensures { result ≡ position (stops_at mark) text.now }
 {
-    let bytes = text.as_bytes();
-    for i in 0..bytes.len() {
-        if is_mark(mark, bytes[i]) {
-            // A mark is ASCII, so no character is split before it or after it.
-            return Parts {
-                piece: text.split_at(i).0,
-                rest: text.split_at(i + 1).1,
-            };
-        }
-    }
-    Parts {
-        piece: text,
-        rest: text.split_at(bytes.len()).1,
-    }
+    text.bytes().position(|byte| is_mark(mark, byte))
 }
 
 // Cuts the text at the first mark; without one, the piece is all of it.
@@ -42,5 +29,15 @@ pub fn cut(text: &str, mark: Mark) -> Parts<'_>
     ensures piece { result.piece.now ≡ upto (stops_at mark) text.now }
     ensures rest { result.rest.now ≡ beyond (stops_at mark) text.now }
 {
-    cut_at_first(text, mark)
+    match first_mark(text, mark) {
+        // A mark is ASCII, so no character is split before it or after it.
+        Some(at) => Parts {
+            piece: text.split_at(at).0,
+            rest: text.split_at(at + 1).1,
+        },
+        None => Parts {
+            piece: text,
+            rest: "",
+        },
+    }
 }

@@ -2,6 +2,7 @@
 #![tactic(auto)]
 
 pub mod cut;
+pub mod line;
 pub mod number;
 pub mod parts;
 pub mod stamp;

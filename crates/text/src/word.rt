@@ -1,22 +1,27 @@
-ghost use Rattle.std.specs.Prelude.{◌≡◌, reverse};
+ghost use Rattle.std.specs.Prelude.{◌≡◌, ◌<◌, ◌^◌, not, length, reverse};
+ghost use Rattle.std.specs.List.{position};
 ghost use Rattle.std.specs.Option.{option_map};
-ghost use Rattle.text.specs.Pieces.{unblanked, trimmed, first_word, next_word};
+ghost use Rattle.text.specs.Pieces.{blank, unblanked, trimmed, first_word, next_word, between_blanks};
 ghost use Rattle.text.specs.Stops.{parts_of};
 
 use crate::cut::{cut, is_mark};
 use crate::parts::{Mark, Parts};
 
+// The place of the first byte that is no blank.
+fn first_solid(line: &str) -> Option<usize>
+    ensures { result ≡ position (λ b. not (blank b)) line.now }
+{
+    line.bytes().position(|byte| !is_mark(Mark::Blank, byte))
+}
+
 // The line from its first byte on that is no blank.
 fn unblank(line: &str) -> &str
     ensures { result.now ≡ unblanked line.now }
 {
-    let bytes = line.as_bytes();
-    for i in 0..bytes.len() {
-        if !is_mark(Mark::Blank, bytes[i]) {
-            return line.split_at(i).1;
-        }
+    match first_solid(line) {
+        Some(start) => line.split_at(start).1,
+        None => "",
     }
-    line.split_at(bytes.len()).1
 }
 
 // The word with which the line begins, and what follows the blank that ends it; `None` where the line has no byte.
@@ -40,6 +45,7 @@ pub fn next_word(line: &str) -> Option<Parts<'_>>
 fn unblank_end(line: &str) -> &str
     ensures { result.now ≡ reverse (unblanked (reverse line.now)) }
 {
+    // Kept as a `while`: with `rposition` it stays open which byte is the last that is no blank, since no list word states what it gives.
     let bytes = line.as_bytes();
     let mut end = bytes.len();
     while end > 0 && is_mark(Mark::Blank, bytes[end - 1]) {
@@ -53,4 +59,39 @@ pub fn trim(line: &str) -> &str
     ensures { result.now ≡ trimmed line.now }
 {
     unblank_end(unblank(line))
+}
+
+// The words between the blanks of a text, one after another.
+#[derive(Clone, Copy)]
+pub struct Words<'a> {
+    rest: &'a str,
+    // So that a count of the words fits.
+    ghost fits: { length (between_blanks rest.now) < 2 ^ 64 },
+}
+
+impl<'a> Words<'a> {
+    // The words of the text.
+    #[tactic(auto, using(crate::proofs::Words::words_fit))]
+    pub fn new(text: &'a str) -> Words<'a>
+        ensures { result.rest.now ≡ text.now }
+    {
+        Words { rest: text }
+    }
+}
+
+impl<'a> Iterator for Words<'a> {
+    ghost use Rattle.std.specs.Iterator.{YieldsFirstRef, item_count};
+    ghost use Rattle.text.specs.Left.{words_left};
+
+    type Item = &'a str;
+
+    ghost next_gives = { YieldsFirstRef words_left };
+
+    ghost remaining = { item_count words_left };
+
+    fn next(&mut self) -> Option<&'a str> {
+        let word = next_word(self.rest)?;
+        self.rest = word.rest;
+        Some(word.piece)
+    }
 }

@@ -1,4 +1,3 @@
-pub mod Cutting
 pub mod Loads
 pub mod Steps
 pub mod Back

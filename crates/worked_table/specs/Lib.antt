@@ -1,5 +1,3 @@
-pub mod Pieces
-pub mod Stops
 pub mod Days
 pub mod Nearest
 pub mod Written
