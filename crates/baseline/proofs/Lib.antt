@@ -1,4 +1,3 @@
-pub mod Threes
 pub mod Tops
 pub mod FirstSome
 pub mod DayReads

@@ -12,15 +12,12 @@ fn read_hour<M: Meter>(meter: &mut M, purpose: Use, at: SummerHour) -> Result<u3
     ensures bound { IfOk result (λ w. w ≤ 100000000) }
     ensures keeps { M.table meter.new ≡ M.table meter.old }
 {
-    match meter.load(at) {
-        Ok(load) => Ok(load),
-        Err(gap) => Err(HourGap {
-            gap,
-            purpose,
-            day: at.day,
-            hour: at.hour,
-        }),
-    }
+    meter.load(at).map_err(|gap| HourGap {
+        gap,
+        purpose,
+        day: at.day,
+        hour: at.hour,
+    })
 }
 
 // The 24 loads of a day, or its first gap.
@@ -35,8 +32,9 @@ pub(crate) fn read_day<M: Meter>(
     ensures keeps { M.table meter.new ≡ M.table meter.old }
 {
     let mut loads = [0; 24];
-    for hour in 0..24u8 {
-        loads[hour as usize] = read_hour(meter, purpose, SummerHour { day, hour })?;
+    for (hour, load) in loads.iter_mut().enumerate() {
+        let hour = hour as u8;
+        *load = read_hour(meter, purpose, SummerHour { day, hour })?;
     }
     Ok(loads)
 }
@@ -53,6 +51,7 @@ pub(crate) fn read_days<M: Meter>(
     ensures keeps { M.table meter.new ≡ M.table meter.old }
 {
     let mut read = [[0; 24]; 10];
+    // By index: no proof knows what an array holds after `iter_mut` with `rev` or `zip`, and the last day is read first.
     for place in (0..10).rev() {
         read[place] = read_day(meter, Use::Comparison, days[place])?;
     }

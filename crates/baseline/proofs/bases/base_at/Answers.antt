@@ -1,7 +1,13 @@
-use Rattle.std.proofs.Common.{◌≡◌, ℕ, ◌+◌, ◌<◌, ◌≤◌, length, get_or, ap, ◌∙◌, arith, rules}
+use Rattle.std.proofs.Common.{◌≡◌, ℕ, ◌+◌, ◌<◌, ◌≤◌, List, [], ◌∷◌, length, get_or, refl, ap, ◌∙◌, arith, rules}
 use Rattle.baseline.specs.Sums.{load_at, sum_at}
-use Rattle.baseline.proofs.Threes.{three_of}
 use Rattle.baseline.proofs.bases.base_at.Goals as goal
+
+three_of : {X : Type 0} (d : X) (xs : List X) → length xs ≡ 3 → get_or xs 0 d ∷ get_or xs 1 d ∷ get_or xs 2 d ∷ [] ≡ xs
+three_of d [] h = absurd (omega arith)
+three_of d (a ∷ []) h = absurd (omega arith)
+three_of d (a ∷ b ∷ []) h = absurd (omega arith)
+three_of d (a ∷ b ∷ c ∷ []) h = refl
+three_of d (a ∷ b ∷ c ∷ e ∷ xs) h = absurd (omega arith)
 
 pub returns : goal.returns
 unfolding sum_at
