@@ -1,5 +1,5 @@
 -- What comes of settling one site on two meters.
-use Rattle.std.specs.Prelude.{ℕ, Ok, Err, Result}
+use Rattle.std.specs.Prelude.{ℕ, IfOk, Ok, Err, Result}
 use Rattle.tariff.specs.Season.{Season}
 use Rattle.tariff.specs.Statement.{Outcome, outcome}
 use Rattle.tariff.specs.Tables.{Table}
@@ -33,3 +33,7 @@ first_after old (Err r) = old
 abbrev pub second_after : Statement → Outcomes → Statement
 second_after old (Ok b) = b.second
 second_after old (Err r) = old
+
+-- where both were answered, their statements compare so
+abbrev pub WrittenSo : (Statement → Statement → Type 0) → Outcomes → Type 0
+WrittenSo P r = IfOk r (λ b. P b.first b.second)

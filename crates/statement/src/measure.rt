@@ -1,6 +1,6 @@
-ghost use Rattle.std.specs.Prelude.{◌≡◌, ◌+◌, ◌≤◌, length};
+ghost use Rattle.std.specs.Prelude.{◌≡◌, ◌+◌, ◌≤◌, length, if◌then◌else◌};
 ghost use Rattle.std.specs.List.{AllByRecursion};
-ghost use Rattle.tariff.specs.Events.{day_hours, event_number};
+ghost use Rattle.tariff.specs.Events.{day_hours, event_number, stands};
 ghost use Rattle.tariff.specs.Season.{day_at};
 ghost use Rattle.pay.specs.Listed.{listed};
 ghost use Rattle.season.specs.View.{view};
@@ -13,9 +13,19 @@ use pay::list::HourList;
 use tariff::season::Day;
 use tariff::statement::{EventFault, StatementRefusal};
 
+// The number of the next event: one more where an event stands, and the same where none was announced or it was revoked.
+fn next_number(number: u8, held: Day) -> u8
+    requires { number ≤ 76 }
+    ensures { result ≡ number + (if stands held then 1 else 0) }
+{
+    match held {
+        Day::Standing(_) => number + 1,
+        Day::NoEvent | Day::Revoked(_) => number,
+    }
+}
+
 impl SeasonSite<'_> {
-    // Measures the event of a day, where one stands, and adds its hours to the list. Answers the number of the next event: one more
-    // where an event stands, and the same where none was announced or it was revoked.
+    // Measures the event of a day, where one stands, and adds its hours to the list. Answers the number of the next event.
     fn measure_day<M: Meter>(
         &self,
         meter: &mut M,
@@ -30,13 +40,15 @@ impl SeasonSite<'_> {
         ensures told { DayTold (view self.now.season.now) self.now.site.now (M.table meter.old) day list.old list.new result }
         ensures keeps { M.table meter.new ≡ M.table meter.old }
     {
-        match self.season.day(u32::from(day)) {
+        let held = self.season.day(u32::from(day));
+        let next = next_number(number, held);
+        match held {
             Day::Standing(event) => {
                 let measured = self.measure_standing(meter, day, event, number)?;
                 push_event(list, self.season.year(), &measured);
-                Ok(number + 1)
+                Ok(next)
             }
-            Day::NoEvent | Day::Revoked(_) => Ok(number),
+            Day::NoEvent | Day::Revoked(_) => Ok(next),
         }
     }
 
