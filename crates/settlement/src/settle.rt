@@ -14,8 +14,8 @@ use statement::request::statement;
 use std::alloc::Global;
 use tariff::statement::Statement;
 
-// The meters that the tasks of a batch name by their places, and the heap on which they are joined. The season and what is written
-// stay parameters, since their types say which calls only read them.
+// The meters that the tasks of a batch name by their places, and the heap on which they are joined.
+// The season and the statements stay parameters, whose types say that a task on meters reads the one and adds to the other.
 #[derive(Clone, Copy)]
 pub(crate) struct Meters<'a> {
     pub(crate) heap: Global,
