@@ -1,5 +1,7 @@
 // The limits of a season: 64 sites, 15 hours a week, 60 hours in all, and no figure above the highest after the third announcement.
-use crate::seasons::{announce, at, case, enrol, nominate, noon, opened, refused, revoke, taken};
+use crate::seasons::{
+    all_taken, announce, at, case, enrol, nominate, noon, opened, refused, revoke, taken,
+};
 use season::Season;
 use std::process::Abort;
 use tariff::call::{Answer, Call, SeasonRefusal};
@@ -8,7 +10,7 @@ use tariff::call::{Answer, Call, SeasonRefusal};
 #[test]
 fn a_season_has_64_sites(rt: HostRuntime) {
     let mut season = opened(&rt, 2015);
-    for number in 1..65u32 {
+    for number in 1..=64u32 {
         taken(&rt, &mut season, enrol(0, 0, 60), Answer::Site(number));
     }
     refused(
@@ -22,57 +24,36 @@ fn a_season_has_64_sites(rt: HostRuntime) {
 #[test]
 fn a_week_has_15_hours(rt: HostRuntime) {
     let mut season = opened(&rt, 2015);
-    taken(
-        &rt,
-        &mut season,
-        announce(noon(14), 14, 4),
-        Answer::Announced(1),
-    );
-    taken(
-        &rt,
-        &mut season,
-        announce(noon(15), 14, 4),
-        Answer::Announced(2),
-    );
-    taken(
-        &rt,
-        &mut season,
-        announce(noon(16), 14, 4),
-        Answer::Announced(3),
-    );
-    taken(
-        &rt,
-        &mut season,
-        announce(noon(17), 14, 3),
-        Answer::Announced(4),
-    );
+    let calls = [
+        (announce(noon(14), 14, 4), Answer::Announced(1)),
+        (announce(noon(15), 14, 4), Answer::Announced(2)),
+        (announce(noon(16), 14, 4), Answer::Announced(3)),
+        (announce(noon(17), 14, 3), Answer::Announced(4)),
+    ];
+    all_taken(&rt, &mut season, &calls);
     refused(
         &rt,
         &mut season,
         case(announce(noon(18), 14, 2), SeasonRefusal::WeekFull, 18),
     );
-    taken(&rt, &mut season, revoke(at(17, 721)), Answer::Revoked(3));
-    taken(
-        &rt,
-        &mut season,
-        announce(noon(18), 14, 3),
-        Answer::Announced(5),
-    );
-    taken(&rt, &mut season, Call::Close, Answer::Closed(4, 15));
+    let later = [
+        (revoke(at(17, 721)), Answer::Revoked(3)),
+        (announce(noon(18), 14, 3), Answer::Announced(5)),
+        (Call::Close, Answer::Closed(4, 15)),
+    ];
+    all_taken(&rt, &mut season, &later);
 }
 
-// Three events of four hours in each of five weeks.
+// Three days in each of five weeks.
+pub(crate) const FIFTEEN_DAYS: [u32; 15] = [
+    14, 15, 16, 21, 22, 23, 28, 29, 30, 35, 36, 37, 42, 43, 44,
+];
+
+// An event of four hours on each of these days.
 pub(crate) fn sixty_hours(rt: &impl Abort, season: &mut Season) {
-    let days = [14, 15, 16, 21, 22, 23, 28, 29, 30, 35, 36, 37, 42, 43, 44];
-    let mut number = 1;
-    for day in days {
-        taken(
-            rt,
-            season,
-            announce(noon(day), 14, 4),
-            Answer::Announced(number),
-        );
-        number = number.saturating_add(1);
+    for (day, number) in FIFTEEN_DAYS.iter().zip(1..=15u32) {
+        let answer = Answer::Announced(number);
+        taken(rt, season, announce(noon(*day), 14, 4), answer);
     }
 }
 
@@ -102,9 +83,7 @@ fn no_figure_rises_above_the_highest_after_the_third_announcement(rt: HostRuntim
         (nominate(noon(15), 1, 9, 80), Answer::Week(9)),
         (announce(noon(16), 14, 2), Answer::Announced(3)),
     ];
-    for (call, answer) in calls {
-        taken(&rt, &mut season, call, answer);
-    }
+    all_taken(&rt, &mut season, &calls);
     refused(
         &rt,
         &mut season,

@@ -1,34 +1,21 @@
 // The day-of adjustment at its ends, and where B is 0: the event of June 15 from 14:00, announced at noon, so that hours 10 and 11 of
 // its day move its baseline.
-use crate::seasons::{announce, enrol, noon, opened, taken};
-use crate::summers::{cut, held, put, summer};
-use meter::table::HourlyMeter;
+use crate::seasons::one_event;
+use crate::summers::{cut, held, hourly, put, summer};
 use statement::request::statement;
 use std::alloc::Global;
 use std::process::Abort;
 use std::test::Fail;
-use tariff::call::{Answer, Call};
 use tariff::statement::HourLine;
 
 // The first line where past days drew `past` in every hour, the two hours before the notice p and q, and the event's hours 250 kWh.
 fn first_line(rt: &impl Abort, heap: Global, past: u32, p: u32, q: u32) -> Result<HourLine, Fail> {
-    let mut season = opened(rt, 2015);
-    taken(rt, &mut season, enrol(0, 0, 60), Answer::Site(1));
-    taken(
-        rt,
-        &mut season,
-        announce(noon(14), 14, 4),
-        Answer::Announced(1),
-    );
-    taken(rt, &mut season, Call::Close, Answer::Closed(1, 4));
+    let season = one_event(rt, 0);
     let mut cells = summer(heap, past)?;
     put(&mut cells, 14, 10, p);
     put(&mut cells, 14, 11, q);
     cut(&mut cells, &[14], 250_000);
-    let mut meter = HourlyMeter {
-        cells: cells.as_slice(),
-        number: 1,
-    };
+    let mut meter = hourly(cells.as_slice(), 1);
     let mut record = held();
     assert!(rt; statement(&season, 1, &mut meter, &mut record) == Ok(4));
     Ok(record.hours[0])

@@ -1,5 +1,5 @@
 // The three meters: loads, gaps and the edges of the summer.
-use meter::table::HourlyMeter;
+use crate::summers::hourly;
 use meter::meter::Meter;
 use meter::pair::PairMeter;
 use meter::table::QuarterMeter;
@@ -16,10 +16,7 @@ fn an_hourly_meter_reads_a_cell_to_the_hour(rt: HostRuntime) {
     cells[1] = 100_000_000;
     cells[2] = 100_000_001;
     cells[26] = 7;
-    let mut meter = HourlyMeter {
-        cells: &cells,
-        number: 11,
-    };
+    let mut meter = hourly(&cells, 11);
     assert_eq!(rt; meter.ask(0, 1), Ok(100_000_000));
     assert_eq!(rt; meter.ask(0, 2), missing(11));
     assert_eq!(rt; meter.ask(1, 2), Ok(7));
@@ -31,10 +28,7 @@ fn an_hourly_meter_reads_a_cell_to_the_hour(rt: HostRuntime) {
 #[test]
 fn no_question_beyond_the_summer(rt: HostRuntime) {
     let cells = [5];
-    let mut meter = HourlyMeter {
-        cells: &cells,
-        number: 11,
-    };
+    let mut meter = hourly(&cells, 11);
     assert_eq!(rt; meter.ask(75, 23), missing(11));
     assert_eq!(rt; meter.ask(76, 0), Err(MeterFault::NoSuchHour));
     assert_eq!(rt; meter.ask(0, 24), Err(MeterFault::NoSuchHour));
@@ -70,18 +64,9 @@ fn pairs_stand_in_pairs_three_deep(rt: HostRuntime) {
     let b = [20, u32::MAX, 40_000_000, 2];
     let c = [30, 3, 0, u32::MAX];
     let quarters = [10, 10, 10, 10, 1, 1, 1, 1, 1, 0, 0, 0, 1, 1, 1, u32::MAX];
-    let first = HourlyMeter {
-        cells: &a,
-        number: 1,
-    };
-    let second = HourlyMeter {
-        cells: &b,
-        number: 2,
-    };
-    let third = HourlyMeter {
-        cells: &c,
-        number: 3,
-    };
+    let first = hourly(&a, 1);
+    let second = hourly(&b, 2);
+    let third = hourly(&c, 3);
     let fourth = QuarterMeter {
         cells: &quarters,
         number: 4,

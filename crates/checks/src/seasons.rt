@@ -57,6 +57,25 @@ pub(crate) fn taken(rt: &impl Abort, season: &mut Season, call: Call, answer: An
     assert!(rt; season.call(call) == Ok(answer));
 }
 
+// Each call is taken, with its answer.
+pub(crate) fn all_taken(rt: &impl Abort, season: &mut Season, calls: &[(Call, Answer)]) {
+    for (call, answer) in calls {
+        taken(rt, season, *call, *answer);
+    }
+}
+
+// A closed season of 2015 with one site of a kind, at 60 kW, and one event, on June 15 from 14:00 to 18:00.
+pub(crate) fn one_event(rt: &impl Abort, kind: u32) -> Season {
+    let mut season = opened(rt, 2015);
+    let calls = [
+        (enrol(0, kind, 60), Answer::Site(1)),
+        (announce(noon(14), 14, 4), Answer::Announced(1)),
+        (Call::Close, Answer::Closed(1, 4)),
+    ];
+    all_taken(rt, &mut season, &calls);
+    season
+}
+
 // The call is refused, with this number, and leaves the whole record.
 pub(crate) fn refused(rt: &impl Abort, season: &mut Season, case: Expected) {
     let before = *season;

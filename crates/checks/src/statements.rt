@@ -1,8 +1,7 @@
 // Statements worked out by hand, and their refusals.
-use crate::limits::sixty_hours;
-use crate::seasons::{announce, enrol, noon, opened, taken};
-use crate::summers::{cut, held, put, summer};
-use meter::table::HourlyMeter;
+use crate::limits::{FIFTEEN_DAYS, sixty_hours};
+use crate::seasons::{enrol, one_event, opened, taken};
+use crate::summers::{cut, held, hourly, put, summer};
 use meter::pair::PairMeter;
 use season::Season;
 use statement::compare::compare;
@@ -22,28 +21,11 @@ fn without_events(rt: &impl Abort, year: u32) -> Season {
     season
 }
 
-// A closed season of 2015 with one event, on June 15 from 14:00 to 18:00.
-fn one_event(rt: &impl Abort) -> Season {
-    let mut season = opened(rt, 2015);
-    taken(rt, &mut season, enrol(0, 1, 60), Answer::Site(1));
-    taken(
-        rt,
-        &mut season,
-        announce(noon(14), 14, 4),
-        Answer::Announced(1),
-    );
-    taken(rt, &mut season, Call::Close, Answer::Closed(1, 4));
-    season
-}
-
 // Nine weeks of five programme days at 65,000 × 60 each, and no hour is asked of the meter.
 #[test]
 fn a_summer_without_events_pays_capacity_alone(rt: HostRuntime) {
     let season = without_events(&rt, 2015);
-    let mut meter = HourlyMeter {
-        cells: &[],
-        number: 1,
-    };
+    let mut meter = hourly(&[], 1);
     let mut record = held();
     assert!(rt; statement(&season, 1, &mut meter, &mut record) == Ok(0));
     assert!(rt;
@@ -56,10 +38,7 @@ fn a_summer_without_events_pays_capacity_alone(rt: HostRuntime) {
 #[test]
 fn a_week_without_programme_days_pays_nothing(rt: HostRuntime) {
     let season = without_events(&rt, 2019);
-    let mut meter = HourlyMeter {
-        cells: &[],
-        number: 1,
-    };
+    let mut meter = hourly(&[], 1);
     let mut record = held();
     assert!(rt; statement(&season, 1, &mut meter, &mut record) == Ok(0));
     assert!(rt; record.weeks[0].days == 0 && record.weeks[0].capacity == 0);
@@ -69,13 +48,10 @@ fn a_week_without_programme_days_pays_nothing(rt: HostRuntime) {
 // 305 kWh in every hour and 250 in the event's: 55 kWh are shed in each, and 5 are missing at 60 kW.
 #[test]
 fn one_event_is_measured_and_paid(rt: HostRuntime) -> Result<(), Fail> {
-    let season = one_event(&rt);
+    let season = one_event(&rt, 1);
     let mut cells = summer(rt.alloc(), 305_000)?;
     cut(&mut cells, &[14], 250_000);
-    let mut meter = HourlyMeter {
-        cells: cells.as_slice(),
-        number: 1,
-    };
+    let mut meter = hourly(cells.as_slice(), 1);
     let mut record = held();
     assert!(rt; statement(&season, 1, &mut meter, &mut record) == Ok(4));
     let line = record.hours[3];
@@ -99,15 +75,8 @@ fn sixty_hours_are_measured_and_paid(rt: HostRuntime) -> Result<(), Fail> {
     sixty_hours(&rt, &mut season);
     taken(&rt, &mut season, Call::Close, Answer::Closed(15, 60));
     let mut cells = summer(rt.alloc(), 305_000)?;
-    cut(
-        &mut cells,
-        &[14, 15, 16, 21, 22, 23, 28, 29, 30, 35, 36, 37, 42, 43, 44],
-        250_000,
-    );
-    let mut meter = HourlyMeter {
-        cells: cells.as_slice(),
-        number: 1,
-    };
+    cut(&mut cells, &FIFTEEN_DAYS, 250_000);
+    let mut meter = hourly(cells.as_slice(), 1);
     let mut record = held();
     assert!(rt; statement(&season, 1, &mut meter, &mut record) == Ok(60));
     assert!(rt;
@@ -124,10 +93,7 @@ fn sixty_hours_are_measured_and_paid(rt: HostRuntime) -> Result<(), Fail> {
 fn a_statement_needs_a_closed_season_and_a_site(rt: HostRuntime) {
     let mut season = opened(&rt, 2015);
     taken(&rt, &mut season, enrol(0, 0, 60), Answer::Site(1));
-    let mut meter = HourlyMeter {
-        cells: &[],
-        number: 1,
-    };
+    let mut meter = hourly(&[], 1);
     let mut record = held();
     assert!(rt;
         statement(&season, 1, &mut meter, &mut record) == Err(StatementRefusal::SeasonNotClosed)
@@ -150,15 +116,12 @@ fn a_statement_needs_a_closed_season_and_a_site(rt: HostRuntime) {
 // 25: the earliest day first, hours rising, then the event's own day.
 #[test]
 fn the_first_missing_hour_is_told(rt: HostRuntime) -> Result<(), Fail> {
-    let season = one_event(&rt);
+    let season = one_event(&rt, 1);
     let mut cells = summer(rt.alloc(), 305_000)?;
     put(&mut cells, 14, 0, u32::MAX);
     put(&mut cells, 11, 0, u32::MAX);
     put(&mut cells, 0, 23, u32::MAX);
-    let mut meter = HourlyMeter {
-        cells: cells.as_slice(),
-        number: 7,
-    };
+    let mut meter = hourly(cells.as_slice(), 7);
     let mut record = held();
     let fault = BaselineFault::HourWithoutLoad(HourGap {
         gap: Gap::Missing(7),
@@ -176,17 +139,11 @@ fn the_first_missing_hour_is_told(rt: HostRuntime) -> Result<(), Fail> {
 // 26: two meters that come to more than an hour may hold, on the event's own day.
 #[test]
 fn an_hour_that_is_over_is_told(rt: HostRuntime) -> Result<(), Fail> {
-    let season = one_event(&rt);
+    let season = one_event(&rt, 1);
     let mut cells = summer(rt.alloc(), 305_000)?;
     put(&mut cells, 14, 20, 60_000_000);
-    let first = HourlyMeter {
-        cells: cells.as_slice(),
-        number: 1,
-    };
-    let second = HourlyMeter {
-        cells: cells.as_slice(),
-        number: 2,
-    };
+    let first = hourly(cells.as_slice(), 1);
+    let second = hourly(cells.as_slice(), 2);
     let mut pair = PairMeter { first, second };
     let mut record = held();
     let fault = BaselineFault::HourWithoutLoad(HourGap {
@@ -205,26 +162,14 @@ fn an_hour_that_is_over_is_told(rt: HostRuntime) -> Result<(), Fail> {
 // A pair in a pair settles as one meter does that has the sum.
 #[test]
 fn an_aggregated_site_is_settled_on_pairs(rt: HostRuntime) -> Result<(), Fail> {
-    let season = one_event(&rt);
+    let season = one_event(&rt, 1);
     let whole = summer(rt.alloc(), 305_000)?;
     let part = summer(rt.alloc(), 100_000)?;
     let rest = summer(rt.alloc(), 105_000)?;
-    let mut single = HourlyMeter {
-        cells: whole.as_slice(),
-        number: 1,
-    };
-    let a = HourlyMeter {
-        cells: part.as_slice(),
-        number: 2,
-    };
-    let b = HourlyMeter {
-        cells: rest.as_slice(),
-        number: 3,
-    };
-    let c = HourlyMeter {
-        cells: part.as_slice(),
-        number: 4,
-    };
+    let mut single = hourly(whole.as_slice(), 1);
+    let a = hourly(part.as_slice(), 2);
+    let b = hourly(rest.as_slice(), 3);
+    let c = hourly(part.as_slice(), 4);
     let inner = PairMeter {
         first: a,
         second: b,
@@ -243,23 +188,14 @@ fn an_aggregated_site_is_settled_on_pairs(rt: HostRuntime) -> Result<(), Fail> {
 // A deeper cut is compared with the first, and where the second meter has a gap neither record is filled.
 #[test]
 fn two_summers_are_compared(rt: HostRuntime) -> Result<(), Fail> {
-    let season = one_event(&rt);
+    let season = one_event(&rt, 1);
     let mut cells = summer(rt.alloc(), 305_000)?;
     cut(&mut cells, &[14], 250_000);
     let mut deeper = summer(rt.alloc(), 305_000)?;
     cut(&mut deeper, &[14], 240_000);
-    let mut first = HourlyMeter {
-        cells: cells.as_slice(),
-        number: 1,
-    };
-    let mut second = HourlyMeter {
-        cells: deeper.as_slice(),
-        number: 2,
-    };
-    let mut none = HourlyMeter {
-        cells: &[],
-        number: 3,
-    };
+    let mut first = hourly(cells.as_slice(), 1);
+    let mut second = hourly(deeper.as_slice(), 2);
+    let mut none = hourly(&[], 3);
     let mut one = held();
     let mut two = held();
     assert!(rt; compare(&season, 1, &mut first, &mut none, &mut one, &mut two).is_err());

@@ -1,4 +1,5 @@
 // Tables of a whole summer, for the tests of statements.
+use meter::table::HourlyMeter;
 use std::alloc::Global;
 use std::test::Fail;
 use tariff::statement::{HourLine, Statement, WeekLine};
@@ -9,23 +10,29 @@ pub(crate) fn summer(heap: Global, load: u32) -> Result<Vec<u32>, Fail> {
     Ok(cells)
 }
 
+// An hourly meter over a table.
+pub(crate) fn hourly<'a>(cells: &'a [u32], number: u32) -> HourlyMeter<'a> {
+    HourlyMeter { cells, number }
+}
+
 // Another load in an hour of a day.
-pub(crate) fn put(cells: &mut Vec<u32>, day: usize, hour: usize, load: u32) {
+pub(crate) fn put(cells: &mut Vec<u32>, day: u32, hour: u32, load: u32) {
     let cell = day.saturating_mul(24).saturating_add(hour);
-    if let Some(place) = cells.get_mut(cell) {
+    if let Some(place) = cells.get_mut(cell as usize) {
         *place = load;
     }
 }
 
 // Another load from 14:00 to 18:00 of some days.
-pub(crate) fn cut(cells: &mut Vec<u32>, days: &[usize], load: u32) {
+pub(crate) fn cut(cells: &mut Vec<u32>, days: &[u32], load: u32) {
     for day in days {
-        for hour in 14..18usize {
+        for hour in 14..18u32 {
             put(cells, *day, hour, load);
         }
     }
 }
 
+// Nines and no default: a field that a refusal set to zero would not show in a record of zeros.
 const LINE: HourLine = HourLine {
     event: 9,
     day: 9,

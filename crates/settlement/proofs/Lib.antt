@@ -2,8 +2,6 @@ pub mod CalledSeasons
 pub mod FirstLoads
 pub mod HoursHeld
 pub mod Lines
-pub mod Pairs
 pub mod Places
 pub mod Readings
 pub mod Tasks
-pub mod Written

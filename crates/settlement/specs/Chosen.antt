@@ -8,4 +8,4 @@ use Rattle.settlement.specs.declared.chosen.ChosenMeter.TheVariants.{Hourly, Qua
 abbrev pub chosen_table : ChosenMeter → Table
 chosen_table (Hourly m) = summer (hourly m.cells.now m.number)
 chosen_table (Quarter m) = summer (quarterly m.cells.now m.number)
-chosen_table (Pair' p first q second) = summer (λ d h. joined (chosen_table first d h) (chosen_table second d h))
+chosen_table (Pair' p first second) = summer (λ d h. joined (chosen_table first d h) (chosen_table second d h))

@@ -1,8 +1,7 @@
 -- What comes of the tasks of a batch, one after another.
-use Rattle.std.specs.Prelude.{◌≡◌, ℕ, Bool, true, false, ◌&&◌, List, [], ◌∷◌, ◌++◌, replicate, is_some, Ok, Err}
+use Rattle.std.specs.Prelude.{◌≡◌, ℕ, Bool, true, false, ◌&&◌, List, [], ◌∷◌, ◌++◌, is_some, Ok, Err}
 use Rattle.std.specs.Option.{unwrap_or}
 use Rattle.tariff.specs.Calls.{open_answer, after_open, answer, next}
-use Rattle.tariff.specs.Pay.{no_hour, no_week}
 use Rattle.tariff.specs.Season.{Season}
 use Rattle.tariff.specs.Statement as tariff
 use Rattle.tariff.specs.Tables.{Table, outside}
@@ -42,10 +41,6 @@ all_have_meters meters [] = true
 all_have_meters meters (x ∷ xs) = has_meters meters x.task && all_have_meters meters xs
 
 -- ---- one task
-
--- a record of zeros, as it is lent to be filled
-abbrev pub blank : Statement
-blank = record { hours = replicate 60 no_hour; weeks = replicate 10 no_week; incentive = 0; charged = 0; taken = 0; net = 0; paid = 0 }
 
 -- the season that a task leaves
 abbrev pub season_after : Season → Task → Season

@@ -5,9 +5,9 @@ ghost use Rattle.settlement.specs.Choosing.{ChosenFor, table_at, table_of, toget
 use crate::chosen::ChosenMeter;
 use crate::fault::RunFault;
 use crate::results::ReadMeter;
-use meter::table::HourlyMeter;
+use meter::table::{HourlyMeter, QuarterMeter};
 use meter::kind::TableKind;
-use meter::table::QuarterMeter;
+use meter::pair::PairMeter;
 use std::alloc::{AllocError, Global};
 
 // A meter over a table of a kind.
@@ -28,9 +28,7 @@ fn pair_meter<'a>(
 ) -> Result<ChosenMeter<'a>, AllocError>
     ensures { IfOk result (λ m. chosen_table m ≡ together (chosen_table first.entry) (chosen_table second.entry)) }
 {
-    let first = Box::new(heap, first)?;
-    let second = Box::new(heap, second)?;
-    Ok(ChosenMeter::Pair(first, second))
+    Ok(ChosenMeter::Pair(Box::new(heap, PairMeter { first, second })?))
 }
 
 // The meter at a place of a list of meters. The two meters of a pair are looked up among those before it.
@@ -41,9 +39,7 @@ pub fn choose<'a>(
 ) -> Result<ChosenMeter<'a>, RunFault>
     ensures { ChosenFor (table_at meters.now place) result }
 {
-    let Some(meter) = meters.get(place) else {
-        return Err(RunFault::NoSuchMeter);
-    };
+    let meter = meters.get(place).ok_or(RunFault::NoSuchMeter)?;
     match meter {
         ReadMeter::Table {
             kind,

@@ -10,10 +10,7 @@ fn held_in_hour<M: Meter>(meter: &mut M, at: SummerHour) -> u32
     ensures within { result ≤ 1 }
     ensures keeps { M.table meter.new ≡ M.table meter.old }
 {
-    match meter.load(at) {
-        Ok(_) => 1,
-        Err(_) => 0,
-    }
+    u32::from(meter.load(at).is_ok())
 }
 
 // How many hours of a day of the summer hold a load.
@@ -24,6 +21,7 @@ fn held_on_day<M: Meter>(meter: &mut M, day: u8) -> u32
     ensures keeps { M.table meter.new ≡ M.table meter.old }
 {
     let mut found = 0;
+    // A `for` and no chain: of a closure that asks a `&mut` meter neither the count nor that its table is kept was shown.
     for hour in 0..24u8 {
         found += held_in_hour(meter, SummerHour { day, hour });
     }
@@ -37,6 +35,7 @@ pub fn hours_held<M: Meter>(meter: &mut M) -> u32
     ensures keeps { M.table meter.new ≡ M.table meter.old }
 {
     let mut found = 0;
+    // A `for` for the same reason as over the hours of a day.
     for day in 0..76u8 {
         found += held_on_day(meter, day);
     }

@@ -2,7 +2,6 @@
 // counts that are read aloud.
 #![tactic(auto)]
 
-mod blank;
 pub mod choose;
 pub mod chosen;
 pub mod counts;

@@ -12,6 +12,7 @@ pub enum ReadMeter {
         number: u32,
         cells: Vec<u32>,
     },
+    // Places and no boxes: two pairs may name one meter, whose cells a box could hold for only one of them.
     Pair {
         first: usize,
         second: usize,

@@ -7,64 +7,53 @@ ghost use Rattle.settlement.specs.Seasons.{Called};
 use crate::fault::RunFault;
 use crate::laws::{statements_out_are_those_written, tasks_leave_called_seasons};
 use crate::results::{Done, Outcome, ReadMeter};
-use crate::settle::{compare_at, settle_at};
+use crate::settle::Meters;
 use batch::plan::{Step, Task};
 use season::Season;
 use std::alloc::Global;
 use tariff::statement::Statement;
 
-// Does one task, and adds the statements that it writes to a list.
-fn do_task(
-    heap: Global,
-    season: &mut Season,
-    meters: &[ReadMeter],
-    task: Task,
-    statements: &mut Vec<Statement>,
-) -> Result<Outcome, RunFault>
-    ensures there { OnOk result (has_meters meters.now task ≡ true) }
-    ensures outcome { IfOk result (λ o. o ≡ outcome_of (tables_of meters.now) (view season.old) task) }
-    ensures after { OnOk result (view season.new ≡ season_after (view season.old) task) }
-    ensures written { OnOk result (statements.new.items ≡ statements.old.items ++ statements_of (tables_of meters.now) (view season.old) task) }
-    ensures stopped { IfErr result (StoppedFor (has_meters meters.now task)) }
-{
-    match task {
-        Task::Open { year } => Ok(Outcome::Opened(season.open(year))),
-        Task::Call { call } => Ok(Outcome::Called(season.call(call))),
-        Task::Meter { meter: _ } => Ok(Outcome::Metered),
-        Task::Statement { site, meter } => {
-            let answer = settle_at(heap, season, meters, site, meter, statements)?;
-            Ok(Outcome::Stated(answer))
-        }
-        Task::Compare {
-            site,
-            first,
-            second,
-        } => {
-            let answer = compare_at(heap, season, meters, site, first, second, statements)?;
-            Ok(Outcome::Compared(answer))
+impl Meters<'_> {
+    // Does one task, and adds the statements that it writes to a list.
+    fn do_task(
+        &self,
+        season: &mut Season,
+        task: Task,
+        statements: &mut Vec<Statement>,
+    ) -> Result<Outcome, RunFault>
+        ensures there { OnOk result (has_meters self.now.list.now task ≡ true) }
+        ensures outcome { IfOk result (λ o. o ≡ outcome_of (tables_of self.now.list.now) (view season.old) task) }
+        ensures after { OnOk result (view season.new ≡ season_after (view season.old) task) }
+        ensures written { OnOk result (statements.new.items ≡ statements.old.items ++ statements_of (tables_of self.now.list.now) (view season.old) task) }
+        ensures stopped { IfErr result (StoppedFor (has_meters self.now.list.now task)) }
+    {
+        match task {
+            Task::Open { year } => Ok(Outcome::Opened(season.open(year))),
+            Task::Call { call } => Ok(Outcome::Called(season.call(call))),
+            Task::Meter { .. } => Ok(Outcome::Metered),
+            Task::Statement { site, meter } => self.settle(season, site, meter, statements),
+            Task::Compare {
+                site,
+                first,
+                second,
+            } => self.compare(season, site, first, second, statements),
         }
     }
-}
 
-// Does tasks in their order, and adds what comes of them to what is done.
-fn do_steps(
-    heap: Global,
-    season: &mut Season,
-    meters: &[ReadMeter],
-    steps: &[Step],
-    done: &mut Done,
-) -> Result<(), RunFault>
-    ensures there { OnOk result (all_have_meters meters.now steps.now ≡ true) }
-    ensures outcomes { OnOk result (done.new.outcomes.items ≡ done.old.outcomes.items ++ outcomes_of (tables_of meters.now) (view season.old) steps.now) }
-    ensures after { OnOk result (view season.new ≡ season_after_all (view season.old) steps.now) }
-    ensures written { OnOk result (done.new.statements.items ≡ done.old.statements.items ++ statements_of_all (tables_of meters.now) (view season.old) steps.now) }
-    ensures stopped { IfErr result (StoppedFor (all_have_meters meters.now steps.now)) }
-{
-    for step in steps {
-        let outcome = do_task(heap, season, meters, step.task, &mut done.statements)?;
-        done.outcomes.push(outcome)?;
+    // Does tasks in their order, and adds what comes of them to what is done.
+    fn do_steps(&self, season: &mut Season, steps: &[Step], done: &mut Done) -> Result<(), RunFault>
+        ensures there { OnOk result (all_have_meters self.now.list.now steps.now ≡ true) }
+        ensures outcomes { OnOk result (done.new.outcomes.items ≡ done.old.outcomes.items ++ outcomes_of (tables_of self.now.list.now) (view season.old) steps.now) }
+        ensures after { OnOk result (view season.new ≡ season_after_all (view season.old) steps.now) }
+        ensures written { OnOk result (done.new.statements.items ≡ done.old.statements.items ++ statements_of_all (tables_of self.now.list.now) (view season.old) steps.now) }
+        ensures stopped { IfErr result (StoppedFor (all_have_meters self.now.list.now steps.now)) }
+    {
+        for step in steps {
+            let outcome = self.do_task(season, step.task, &mut done.statements)?;
+            done.outcomes.push(outcome)?;
+        }
+        Ok(())
     }
-    Ok(())
 }
 
 // Does the tasks of a batch in their order over a season, and gives what comes of each and the statements that they write, which are
@@ -92,7 +81,7 @@ pub fn run(
         outcomes: Vec::new(heap),
         statements: Vec::new(heap),
     };
-    do_steps(heap, &mut current, meters, steps, &mut done)?;
+    Meters { heap, list: meters }.do_steps(&mut current, steps, &mut done)?;
     *season = current;
     Ok(done)
 }

@@ -1,10 +1,6 @@
 use Rattle.std.proofs.Common.{rules}
-use Rattle.std.proofs.lemmas.List.{take_all}
-use Rattle.std.proofs.lemmas.List.Sums.{sum_by_more}
+use Rattle.std.proofs.iter.runs.Made.{chains}
 use Rattle.settlement.proofs.counts.statements_out.Goals as goal
 
-pub loop-outcome-preserved : goal.loop-outcome-preserved
-loop-outcome-preserved c = search (rules, sum_by_more)
-
 pub returns : goal.returns
-returns c = search (rules, take_all)
+returns c = search (rules, chains)

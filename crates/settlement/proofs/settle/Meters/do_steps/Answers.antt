@@ -1,6 +1,6 @@
 use Rattle.std.proofs.lemmas.Result.{err_from_is_err_and, IfOk-from_err}
 use Rattle.settlement.proofs.Tasks.{there_more, there_all, stopped_here, season_more, season_all, outcomes_more, outcomes_all, statements_more, statements_all}
-use Rattle.settlement.proofs.run.do_steps.Goals as goal
+use Rattle.settlement.proofs.settle.Meters.do_steps.Goals as goal
 
 pub returns-in_err-outcome : goal.returns-in_err-outcome
 returns-in_err-outcome c =
