@@ -1,4 +1,6 @@
 // What the words of a command ask for.
+use std::fmt;
+use std::fmt::{Display, Formatter, Write};
 
 // How a settled batch is written.
 #[derive(Clone, Copy, PartialEq, Eq, Debug)]
@@ -23,40 +25,43 @@ pub(crate) enum UsageFault<'a> {
     SecondBatch(&'a str),
 }
 
-// What is asked for with one more word.
-fn with_word<'a>(asked: Asked<'a>, word: &'a str) -> Result<Asked<'a>, UsageFault<'a>> {
-    if word == "--help" {
-        return Ok(Asked::Help);
+impl Display for UsageFault<'_> {
+    fn fmt<W: Write>(&self, f: &mut Formatter<W>) -> fmt::Result {
+        match *self {
+            UsageFault::NoSuchOption(word) => write!(f, "there is no option {word}"),
+            UsageFault::SecondBatch(word) => {
+                write!(f, "one batch is settled, and {word} is a second")
+            }
+        }
     }
-    let Asked::Settle { form, path } = asked else {
-        return Ok(Asked::Help);
-    };
-    if word == "--csv" {
-        return Ok(Asked::Settle {
-            form: Form::Rows,
-            path,
-        });
+}
+
+impl<'a> Asked<'a> {
+    // What is asked for with one more word.
+    fn with(self, word: &'a str) -> Result<Asked<'a>, UsageFault<'a>> {
+        match (self, word) {
+            (Asked::Help, _) | (_, "--help") => Ok(Asked::Help),
+            (Asked::Settle { path, .. }, "--csv") => Ok(Asked::Settle {
+                form: Form::Rows,
+                path,
+            }),
+            (_, option) if option.starts_with('-') => Err(UsageFault::NoSuchOption(option)),
+            (Asked::Settle { path: Some(_), .. }, second) => Err(UsageFault::SecondBatch(second)),
+            (Asked::Settle { form, path: None }, path) => Ok(Asked::Settle {
+                form,
+                path: Some(path),
+            }),
+        }
     }
-    if word.starts_with('-') {
-        return Err(UsageFault::NoSuchOption(word));
-    }
-    if path.is_some() {
-        return Err(UsageFault::SecondBatch(word));
-    }
-    Ok(Asked::Settle {
-        form,
-        path: Some(word),
-    })
 }
 
 // What a command asks for by its words, the program's own name left out.
 pub(crate) fn asked_for<'a>(words: &[&'a str]) -> Result<Asked<'a>, UsageFault<'a>> {
-    let mut asked = Asked::Settle {
+    let nothing = Asked::Settle {
         form: Form::People,
         path: None,
     };
-    for word in words {
-        asked = with_word(asked, *word)?;
-    }
-    Ok(asked)
+    words
+        .iter()
+        .try_fold(nothing, |asked, word| asked.with(*word))
 }

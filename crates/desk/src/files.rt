@@ -11,25 +11,16 @@ pub(crate) fn batch_name(path: Option<&str>) -> &str {
 // Where a readings file is looked for: in the batch file's own folder, or in the current one where there is no batch file. A name
 // that begins with a slash says the whole of it.
 pub(crate) fn beside(heap: Global, batch: Option<&str>, file: &str) -> Result<String, AllocError> {
-    if file.starts_with('/') {
-        return String::from_str(heap, file);
-    }
-    let folder = match batch {
-        Some(path) => path.rsplit_once('/'),
-        None => None,
-    };
+    let folder = batch.and_then(|path| path.rsplit_once('/'));
     match folder {
-        Some((folder, _)) => format!(in heap; "{folder}/{file}"),
-        None => String::from_str(heap, file),
+        Some((folder, _)) if !file.starts_with('/') => format!(in heap; "{folder}/{file}"),
+        _ => String::from_str(heap, file),
     }
 }
 
 // A text without the byte order mark that it may begin with.
 pub(crate) fn unmarked(text: &str) -> &str {
-    match text.strip_prefix('\u{feff}') {
-        Some(rest) => rest,
-        None => text,
-    }
+    text.strip_prefix('\u{feff}').unwrap_or(text)
 }
 
 // The batch's text, from its file or from standard input.
@@ -38,11 +29,7 @@ pub(crate) fn read_source(rt: &HostRuntime, path: Option<&str>) -> Result<String
         Some(path) => fs::read_to_string(rt, path),
         None => io::read_to_string(rt.alloc(), rt.stdin()),
     };
-    match text {
-        Ok(text) => Ok(text),
-        Err(error) => {
-            let name = batch_name(path);
-            Err(Failure::Said(format!(in rt.alloc(); "{name}: {error}")?))
-        }
-    }
+    text.map_err(|error| {
+        Failure::said(rt.alloc(), format_args!("{}: {error}", batch_name(path)))
+    })
 }

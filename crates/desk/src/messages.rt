@@ -1,11 +1,19 @@
 // What is said of a text that cannot be read, with its name and its line.
+use crate::failure::Failure;
 use batch::faults::{BatchFault, ReadingsFault};
 use entries::entry::EntryFault;
 use meter::kind::TableKind;
-use std::alloc::{AllocError, Global};
+use std::alloc::Global;
 
-// What is wrong with a line of a batch.
-fn entry_fault(fault: EntryFault) -> &'static str {
+// What is wrong with a text, in one of its lines.
+#[derive(Clone, Copy)]
+pub(crate) struct Wrong {
+    line: usize,
+    what: &'static str,
+}
+
+// What is wrong with a line that is no entry.
+fn no_entry(fault: EntryFault) -> &'static str {
     match fault {
         EntryFault::UnknownWord => "a word that no entry has",
         EntryFault::TooFewWords => "too few words",
@@ -19,61 +27,53 @@ fn entry_fault(fault: EntryFault) -> &'static str {
     }
 }
 
-// What is said of a text that is no batch.
-pub(crate) fn batch_message(
-    heap: Global,
-    name: &str,
-    fault: BatchFault,
-) -> Result<String, AllocError> {
-    match fault {
-        BatchFault::NoEntry { line, fault } => {
-            let wrong = entry_fault(fault);
-            format!(in heap; "{name}, line {line}: {wrong}")
-        }
-        BatchFault::LabelNotFirst { line } => format!(in heap;
-            "{name}, line {line}: the first entry is not a label"
-        ),
-        BatchFault::SecondLabel { line } => format!(in heap; "{name}, line {line}: a second label"),
-        BatchFault::NamedTwice { line } => format!(in heap;
-            "{name}, line {line}: a meter with the name of one before it"
-        ),
-        BatchFault::NoSuchMeter { line } => format!(in heap;
-            "{name}, line {line}: no meter before this line has such a name"
-        ),
-        BatchFault::NoLabel => format!(in heap; "{name}, line 1: no label, and no other entry"),
-        BatchFault::NoMemory => Err(AllocError),
-    }
-}
-
-// What a stamp of a table starts.
-fn cell_of(kind: TableKind) -> &'static str {
+// What a stamp that stands between two cells of a table does not do.
+fn between_cells(kind: TableKind) -> &'static str {
     match kind {
-        TableKind::Hourly => "hour",
-        TableKind::Quarter => "quarter-hour",
+        TableKind::Hourly => "a stamp that starts no hour",
+        TableKind::Quarter => "a stamp that starts no quarter-hour",
     }
 }
 
-// What is said of a text that is no file of readings.
-pub(crate) fn readings_message(
-    heap: Global,
-    name: &str,
-    kind: TableKind,
-    fault: ReadingsFault,
-) -> Result<String, AllocError> {
-    match fault {
-        ReadingsFault::NotTimeAndLoad { line } => format!(in heap;
-            "{name}, line {line}: a reading is a time and a load with a comma between them"
-        ),
-        ReadingsFault::NumberTooLarge { line } => {
-            format!(in heap; "{name}, line {line}: a number above 4,294,967,295")
-        }
-        ReadingsFault::NoNumber { line } => format!(in heap;
-            "{name}, line {line}: a time that is neither a number nor a stamp of the summer, or a load that is no number"
-        ),
-        ReadingsFault::BetweenCells { line } => {
-            let cell = cell_of(kind);
-            format!(in heap; "{name}, line {line}: a stamp that starts no {cell}")
-        }
-        ReadingsFault::NoMemory => Err(AllocError),
+impl Wrong {
+    // What is wrong with a text that is no batch; nothing, where only memory was wanting.
+    pub(crate) fn with_batch(fault: BatchFault) -> Option<Wrong> {
+        let (line, what) = match fault {
+            BatchFault::NoEntry { line, fault } => (line, no_entry(fault)),
+            BatchFault::LabelNotFirst { line } => (line, "the first entry is not a label"),
+            BatchFault::SecondLabel { line } => (line, "a second label"),
+            BatchFault::NamedTwice { line } => (line, "a meter with the name of one before it"),
+            BatchFault::NoSuchMeter { line } => (line, "no meter before this line has such a name"),
+            BatchFault::NoLabel => (1, "no label, and no other entry"),
+            BatchFault::NoMemory => return None,
+        };
+        Some(Wrong { line, what })
     }
+
+    // What is wrong with a text that is no file of readings; nothing, where only memory was wanting.
+    pub(crate) fn with_readings(fault: ReadingsFault, kind: TableKind) -> Option<Wrong> {
+        let (line, what) = match fault {
+            ReadingsFault::NotTimeAndLoad { line } => {
+                (
+                    line,
+                    "a reading is a time and a load with a comma between them",
+                )
+            }
+            ReadingsFault::NumberTooLarge { line } => (line, "a number above 4,294,967,295"),
+            ReadingsFault::NoNumber { line } => (
+                line,
+                "a time that is neither a number nor a stamp of the summer, or a load that is no number",
+            ),
+            ReadingsFault::BetweenCells { line } => (line, between_cells(kind)),
+            ReadingsFault::NoMemory => return None,
+        };
+        Some(Wrong { line, what })
+    }
+}
+
+// Why the text of a name is not settled: for what is wrong with it, or else for want of memory.
+pub(crate) fn unread(heap: Global, name: &str, wrong: Option<Wrong>) -> Failure {
+    wrong.map_or(Failure::NoMemory, |Wrong { line, what }| {
+        Failure::said(heap, format_args!("{name}, line {line}: {what}"))
+    })
 }

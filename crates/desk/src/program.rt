@@ -1,8 +1,8 @@
 // The program `settle`.
-use crate::asked::{Asked, UsageFault, asked_for};
+use crate::asked::{Asked, asked_for};
 use crate::failure::{Failure, Stopped};
 use crate::settle::settle_source;
-use std::alloc::{AllocError, Global};
+use std::fmt::Display;
 use std::io::Write;
 use std::{env, io};
 
@@ -39,38 +39,16 @@ line on standard error, status 1, and nothing is settled.
 ";
 
 // Says on standard error why the program stops.
-fn stop(rt: &HostRuntime, failure: Failure) -> Stopped {
-    let said = match failure {
-        Failure::Said(message) => eprintln!(rt; "settle: {message}"),
-        Failure::NoMemory => eprintln!(rt; "settle: there is not enough memory"),
-    };
-    match said {
-        Ok(()) => Stopped,
-        Err(_) => Stopped,
-    }
+fn stop(rt: &HostRuntime, why: impl Display + Drop) -> Stopped {
+    let _ = eprintln!(rt; "settle: {why}");
+    Stopped
 }
 
 // Writes a text to standard output.
 fn show(rt: &HostRuntime, text: &str) -> Result<(), Stopped> {
-    match rt.stdout().write_all(text.as_bytes()) {
-        Ok(()) => Ok(()),
-        Err(error) => {
-            let _ = eprintln!(rt; "settle: standard output: {error}");
-            Err(Stopped)
-        }
-    }
-}
-
-// What is said of words that ask for nothing.
-fn usage_message(heap: Global, fault: UsageFault<'_>) -> Result<String, AllocError> {
-    match fault {
-        UsageFault::NoSuchOption(word) => {
-            format!(in heap; "there is no option {word}\n\n{USAGE}")
-        }
-        UsageFault::SecondBatch(word) => {
-            format!(in heap; "one batch is settled, and {word} is a second\n\n{USAGE}")
-        }
-    }
+    rt.stdout()
+        .write_all(text.as_bytes())
+        .map_err(|error| stop(rt, format_args!("standard output: {error}")))
 }
 
 // The text that the words of a command ask for: how the program is used, or a settled batch.
@@ -79,38 +57,27 @@ pub fn text_for(rt: &HostRuntime, words: &[&str]) -> Result<String, Failure> {
     match asked_for(words) {
         Ok(Asked::Help) => Ok(String::from_str(heap, USAGE)?),
         Ok(Asked::Settle { form, path }) => settle_source(rt, path, form),
-        Err(fault) => Err(Failure::Said(usage_message(heap, fault)?)),
+        Err(fault) => Err(Failure::said(heap, format_args!("{fault}\n\n{USAGE}"))),
     }
 }
 
 // Shows what the words of a command ask for, or says on standard error why there is nothing to show.
 pub fn obey(rt: &HostRuntime, words: &[&str]) -> Result<(), Stopped> {
-    match text_for(rt, words) {
-        Ok(text) => show(rt, text.as_str()),
-        Err(failure) => Err(stop(rt, failure)),
-    }
+    let text = text_for(rt, words).map_err(|failure| stop(rt, failure))?;
+    show(rt, text.as_str())
 }
 
 // Does what the program's arguments ask for, its own name left out.
 fn obey_arguments(rt: &HostRuntime) -> io::Result<Result<(), Stopped>> {
-    let mut arguments = Vec::new(rt.alloc());
-    for word in env::args(rt)?.skip(1) {
-        arguments.push(word)?;
-    }
-    let mut words = Vec::new(rt.alloc());
-    for word in arguments.as_slice() {
-        words.push(word.as_str())?;
-    }
+    let arguments: Vec<String> = env::args(rt)?.skip(1).collect(rt.alloc())?;
+    let words: Vec<&str> = arguments
+        .iter()
+        .map(|word| word.as_str())
+        .collect(rt.alloc())?;
     Ok(obey(rt, words.as_slice()))
 }
 
 // The program: does what its arguments ask for, and says on standard error why it stops where it cannot.
 pub fn run_settle(rt: &HostRuntime) -> Result<(), Stopped> {
-    match obey_arguments(rt) {
-        Ok(done) => done,
-        Err(error) => {
-            let _ = eprintln!(rt; "settle: its arguments: {error}");
-            Err(Stopped)
-        }
-    }
+    obey_arguments(rt).map_err(|error| stop(rt, format_args!("its arguments: {error}")))?
 }

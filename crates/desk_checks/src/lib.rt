@@ -6,4 +6,6 @@ mod commands;
 #[cfg(test)]
 mod lines;
 #[cfg(test)]
+mod shown;
+#[cfg(test)]
 mod unreadable;

@@ -1,20 +1,11 @@
 // A batch or a readings file that cannot be read: what is said of it. Nothing of it is settled.
+use crate::shown::shown;
 use batch::faults::ReadingsFault;
 use batch::readings::read_readings;
 use desk::asked::Form;
-use desk::failure::Failure;
 use desk::settle::settle_text;
 use meter::kind::TableKind;
-use std::process::Abort;
 use std::test::*;
-
-// Whether the batch's text is settled not at all, and this is said.
-fn says(rt: &HostRuntime, text: &str, message: &str) -> bool {
-    match settle_text(rt, Some("b.txt"), text, Form::People) {
-        Err(Failure::Said(words)) => words.as_str() == message,
-        _ => false,
-    }
-}
 
 #[test]
 fn a_line_is_no_entry(rt: HostRuntime) -> Result<(), Fail> {
@@ -43,7 +34,8 @@ fn a_line_is_no_entry(rt: HostRuntime) -> Result<(), Fail> {
         ),
     ];
     for (text, message) in cases {
-        assert!(rt; says(&rt, text, message), "{text}");
+        let settled = settle_text(&rt, Some("b.txt"), text, Form::People);
+        assert_eq!(rt; shown(&settled), Err(message), "{text}");
     }
     Ok(())
 }
@@ -71,45 +63,23 @@ fn a_label_or_a_meter_is_not_there(rt: HostRuntime) -> Result<(), Fail> {
         ),
     ];
     for (text, message) in cases {
-        assert!(rt; says(&rt, text, message), "{text}");
+        let settled = settle_text(&rt, Some("b.txt"), text, Form::People);
+        assert_eq!(rt; shown(&settled), Err(message), "{text}");
     }
     Ok(())
 }
 
-// The text is no file of readings, and this is why.
-fn no_readings(
-    rt: &(impl Abort + AllocGlobal),
-    text: &str,
-    why: ReadingsFault,
-) -> Result<(), Fail> {
-    match read_readings(rt.alloc(), text, TableKind::Hourly) {
-        Ok(_) => {
-            assert!(rt; false);
-            Ok(())
-        },
-        Err(fault) => {
-            assert_eq!(rt; fault, why);
-            Ok(())
-        },
-    }
-}
-
 #[test]
 fn a_line_is_no_reading(rt: HostRuntime) -> Result<(), Fail> {
-    no_readings(
-        &rt,
-        "time,wh\n5\n",
-        ReadingsFault::NotTimeAndLoad { line: 2 },
-    )?;
-    no_readings(
-        &rt,
-        "1,4294967296\n",
-        ReadingsFault::NumberTooLarge { line: 1 },
-    )?;
-    no_readings(&rt, "1,2\nx,5\n", ReadingsFault::NoNumber { line: 2 })?;
-    no_readings(
-        &rt,
-        "06-01T00:15,5\n",
-        ReadingsFault::BetweenCells { line: 1 },
-    )
+    let cases = [
+        ("time,wh\n5\n", ReadingsFault::NotTimeAndLoad { line: 2 }),
+        ("1,4294967296\n", ReadingsFault::NumberTooLarge { line: 1 }),
+        ("1,2\nx,5\n", ReadingsFault::NoNumber { line: 2 }),
+        ("06-01T00:15,5\n", ReadingsFault::BetweenCells { line: 1 }),
+    ];
+    for (text, why) in cases {
+        let read = read_readings(rt.alloc(), text, TableKind::Hourly);
+        assert_eq!(rt; read.err(), Some(why), "{text}");
+    }
+    Ok(())
 }

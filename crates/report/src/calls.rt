@@ -1,127 +1,131 @@
 // The calls of a season and their answers, in words.
-use crate::dates::moment;
-use crate::figures::grouped;
-use crate::room::NoRoom;
-use std::alloc::Global;
-use std::fmt::Write;
+use crate::dates::Moment;
+use crate::figures::Grouped;
+use std::fmt;
+use std::fmt::{Display, Formatter, Write};
 use tariff::call::{Answer, Call};
 
-// The ending of a word that says how many.
-fn plural(count: u32) -> &'static str {
-    if count == 1 { "" } else { "s" }
-}
+// How many there are of something, as `3 hours` or `1 hour`.
+#[derive(Clone, Copy)]
+pub(crate) struct Count(pub u32, pub &'static str);
 
-fn write_enrol(
-    out: &mut String,
-    heap: Global,
-    when: &str,
-    kind: u32,
-    kw: u32,
-) -> Result<(), NoRoom> {
-    let kw = grouped(heap, u64::from(kw))?;
-    match kind {
-        0 => writeln!(out, "enrol a single site with {kw} kW, {when}")?,
-        1 => writeln!(out, "enrol an aggregated site with {kw} kW, {when}")?,
-        _ => writeln!(out, "enrol a site of kind {kind} with {kw} kW, {when}")?,
-    }
-    Ok(())
-}
-
-fn write_announce(out: &mut String, when: &str, start: u32, length: u32) -> Result<(), NoRoom> {
-    let ending = plural(length);
-    if start < 24 {
-        writeln!(
-            out,
-            "announce an event of {length} hour{ending} from {start:02}:00, {when}"
-        )?;
-    } else {
-        writeln!(
-            out,
-            "announce an event of {length} hour{ending} from hour {start}, {when}"
-        )?;
-    }
-    Ok(())
-}
-
-fn write_nominate(
-    out: &mut String,
-    heap: Global,
-    when: &str,
-    site: u32,
-    week: u32,
-    kw: u32,
-) -> Result<(), NoRoom> {
-    let kw = grouped(heap, u64::from(kw))?;
-    writeln!(
-        out,
-        "nominate {kw} kW for site {site} from week {week} on, {when}"
-    )?;
-    Ok(())
-}
-
-// The moment of a call, as a date and a time of day; a closing has none.
-fn when_of(heap: Global, year: Option<u32>, call: Call) -> Result<String, NoRoom> {
-    match call {
-        Call::Enrol { moment: at, .. }
-        | Call::Nominate { moment: at, .. }
-        | Call::Announce { moment: at, .. }
-        | Call::Revoke { moment: at } => Ok(moment(heap, year, at)?),
-        Call::Close => Ok(String::new(heap)),
+impl Display for Count {
+    fn fmt<W: Write>(&self, f: &mut Formatter<W>) -> fmt::Result {
+        let Count(count, noun) = *self;
+        let ending = if count == 1 { "" } else { "s" };
+        write!(f, "{count} {noun}{ending}")
     }
 }
 
-fn write_call_at(out: &mut String, heap: Global, call: Call, when: &str) -> Result<(), NoRoom> {
-    match call {
-        Call::Enrol { kind, kw, .. } => write_enrol(out, heap, when, kind, kw),
-        Call::Nominate { site, week, kw, .. } => write_nominate(out, heap, when, site, week, kw),
-        Call::Announce { start, length, .. } => write_announce(out, when, start, length),
-        Call::Revoke { .. } => {
-            writeln!(out, "revoke the event of the day, {when}")?;
-            Ok(())
-        }
-        Call::Close => {
-            writeln!(out, "close the season")?;
-            Ok(())
+// A kind of site, by the number that a call gives for it.
+#[derive(Clone, Copy)]
+struct SiteOfKind(u32);
+
+impl Display for SiteOfKind {
+    fn fmt<W: Write>(&self, f: &mut Formatter<W>) -> fmt::Result {
+        match self.0 {
+            0 => write!(f, "a single site"),
+            1 => write!(f, "an aggregated site"),
+            kind => write!(f, "a site of kind {kind}"),
         }
     }
 }
 
-// What a call asks for, with its moment.
-pub(crate) fn write_call(
-    out: &mut String,
-    heap: Global,
-    year: Option<u32>,
-    call: Call,
-) -> Result<(), NoRoom> {
-    let when = when_of(heap, year, call)?;
-    write_call_at(out, heap, call, when.as_str())
-}
+// The hour in which an event starts, which may be none of the day.
+#[derive(Clone, Copy)]
+struct Start(u32);
 
-// What a call that was taken answered.
-pub(crate) fn write_answer(out: &mut String, answer: Answer) -> Result<(), NoRoom> {
-    match answer {
-        Answer::Site(site) => writeln!(out, "enrolled as site {site}")?,
-        Answer::Week(week) => writeln!(out, "taken for week {week} and the weeks after it")?,
-        Answer::Announced(count) => writeln!(out, "accepted as announcement {count}")?,
-        Answer::Revoked(hours) => {
-            let ending = plural(hours);
-            writeln!(out, "revoked, with its {hours} hour{ending}")?;
-        }
-        Answer::Closed(events, hours) => {
-            let of_events = plural(events);
-            let of_hours = plural(hours);
-            writeln!(
-                out,
-                "closed, with {events} event{of_events} and {hours} event hour{of_hours}"
-            )?;
+impl Display for Start {
+    fn fmt<W: Write>(&self, f: &mut Formatter<W>) -> fmt::Result {
+        let Start(hour) = *self;
+        if hour < 24 {
+            write!(f, "{hour:02}:00")
+        } else {
+            write!(f, "hour {hour}")
         }
     }
-    Ok(())
 }
 
-// What a statement, or each of two, that was written has.
-pub(crate) fn write_written(out: &mut String, hours: u32, each: &str) -> Result<(), NoRoom> {
-    let ending = plural(hours);
-    writeln!(out, "written, with {hours} event hour{ending}{each}")?;
-    Ok(())
+// A call, in words: what it asks for, and its moment. The year is that of the season in force, if one was opened.
+#[derive(Clone, Copy)]
+pub(crate) struct Asked {
+    pub year: Option<u32>,
+    pub call: Call,
+}
+
+impl Asked {
+    // A moment of the season in force.
+    fn at(self, minutes: u32) -> Moment {
+        Moment {
+            year: self.year,
+            minutes,
+        }
+    }
+}
+
+impl Display for Asked {
+    fn fmt<W: Write>(&self, f: &mut Formatter<W>) -> fmt::Result {
+        match self.call {
+            Call::Enrol { moment, kind, kw } => {
+                let site = SiteOfKind(kind);
+                let kw = Grouped(u64::from(kw));
+                write!(f, "enrol {site} with {kw} kW, {}", self.at(moment))
+            }
+            Call::Nominate {
+                moment,
+                site,
+                week,
+                kw,
+            } => {
+                let kw = Grouped(u64::from(kw));
+                let when = self.at(moment);
+                write!(
+                    f,
+                    "nominate {kw} kW for site {site} from week {week} on, {when}"
+                )
+            }
+            Call::Announce {
+                moment,
+                start,
+                length,
+            } => {
+                let hours = Count(length, "hour");
+                let start = Start(start);
+                write!(
+                    f,
+                    "announce an event of {hours} from {start}, {}",
+                    self.at(moment)
+                )
+            }
+            Call::Revoke { moment } => write!(
+                f,
+                "revoke the event of the day, {}",
+                self.at(moment)
+            ),
+            Call::Close => write!(f, "close the season"),
+        }
+    }
+}
+
+// What a call that was taken answered, in words.
+#[derive(Clone, Copy)]
+pub(crate) struct Answered(pub Answer);
+
+impl Display for Answered {
+    fn fmt<W: Write>(&self, f: &mut Formatter<W>) -> fmt::Result {
+        match self.0 {
+            Answer::Site(site) => write!(f, "enrolled as site {site}"),
+            Answer::Week(week) => write!(f, "taken for week {week} and the weeks after it"),
+            Answer::Announced(count) => write!(f, "accepted as announcement {count}"),
+            Answer::Revoked(hours) => write!(f, "revoked, with its {}", Count(hours, "hour")),
+            Answer::Closed(events, hours) => {
+                let events = Count(events, "event");
+                write!(
+                    f,
+                    "closed, with {events} and {}",
+                    Count(hours, "event hour")
+                )
+            }
+        }
+    }
 }

@@ -1,79 +1,75 @@
 // Days, moments and hours of a summer as people read them.
-use crate::figures::grouped;
+use crate::figures::{Grouped, pad};
 use calendar::weekday;
-use std::alloc::{AllocError, Global};
+use std::fmt;
+use std::fmt::{Display, Formatter, Write};
 
 // The minutes of a summer's day, and the first minute after a summer.
 const DAY: u32 = 1440;
 
 const SUMMER: u32 = 109_440;
 
-// A date: the day of its month, from 1, and the month's name.
+// The names of the weekdays, which are counted from 0 at Monday.
+const WEEKDAYS: [&str; 7] = ["Mon", "Tue", "Wed", "Thu", "Fri", "Sat", "Sun"];
+
+// A day of the summer, counted from 0 at June 1, shown as a date, with its weekday where the year is known. Days past the summer
+// count on in August.
 #[derive(Clone, Copy)]
-pub(crate) struct MonthDay {
-    pub number: u32,
-    pub month: &'static str,
+pub(crate) struct Date {
+    pub year: Option<u32>,
+    pub day: u32,
 }
 
-// The date of a day of the summer, counted from 0 at June 1. Days past the summer count on in August.
-pub(crate) fn month_day(day: u32) -> MonthDay {
-    if day < 30 {
-        MonthDay {
-            number: day + 1,
-            month: "June",
-        }
-    } else if day < 61 {
-        MonthDay {
-            number: day - 29,
-            month: "July",
-        }
-    } else {
-        MonthDay {
-            number: day - 60,
-            month: "August",
+impl Display for Date {
+    fn fmt<W: Write>(&self, f: &mut Formatter<W>) -> fmt::Result {
+        let day = self.day;
+        let (number, month) = match day {
+            0..30 => (day + 1, "June"),
+            30..61 => (day - 29, "July"),
+            _ => (day - 60, "August"),
+        };
+        match self.year {
+            Some(year) => {
+                let name = WEEKDAYS[weekday(year, day) as usize];
+                pad(f, format_args!("{name} {number} {month}"))
+            }
+            None => pad(f, format_args!("{number} {month}")),
         }
     }
 }
 
-// The name of a weekday, counted from 0 at Monday.
-pub(crate) fn weekday_name(weekday: u32) -> &'static str {
-    match weekday {
-        0 => "Mon",
-        1 => "Tue",
-        2 => "Wed",
-        3 => "Thu",
-        4 => "Fri",
-        5 => "Sat",
-        _ => "Sun",
-    }
+// A moment, in minutes since June 1, 00:00, shown as a date and a time of day.
+#[derive(Clone, Copy)]
+pub(crate) struct Moment {
+    pub year: Option<u32>,
+    pub minutes: u32,
 }
 
-// A day of the summer as a date, with its weekday where the year is known.
-pub(crate) fn date(heap: Global, year: Option<u32>, day: u32) -> Result<String, AllocError> {
-    let MonthDay { number, month } = month_day(day);
-    match year {
-        Some(year) => {
-            let name = weekday_name(weekday(year, day));
-            format!(in heap; "{name} {number} {month}")
+impl Display for Moment {
+    fn fmt<W: Write>(&self, f: &mut Formatter<W>) -> fmt::Result {
+        let Moment { year, minutes } = *self;
+        if minutes >= SUMMER {
+            return write!(
+                f,
+                "minute {} after 1 June 00:00",
+                Grouped(u64::from(minutes))
+            );
         }
-        None => format!(in heap; "{number} {month}"),
+        let date = Date {
+            year,
+            day: minutes / DAY,
+        };
+        write!(f, "{date} {:02}:{:02}", minutes % DAY / 60, minutes % 60)
     }
 }
 
-// A moment, in minutes since June 1, 00:00, as a date and a time of day.
-pub(crate) fn moment(heap: Global, year: Option<u32>, minutes: u32) -> Result<String, AllocError> {
-    if minutes >= SUMMER {
-        let count = grouped(heap, u64::from(minutes))?;
-        return format!(in heap; "minute {count} after 1 June 00:00");
-    }
-    let date = date(heap, year, minutes / DAY)?;
-    let hour = minutes % DAY / 60;
-    let minute = minutes % 60;
-    format!(in heap; "{date} {hour:02}:{minute:02}")
-}
+// An hour of the day, shown by the two full hours that it lies between.
+#[derive(Clone, Copy)]
+pub(crate) struct Hour(pub u8);
 
-// An hour of the day, by the two full hours that it lies between.
-pub(crate) fn hours_between(heap: Global, hour: u32) -> Result<String, AllocError> {
-    let end = u64::from(hour) + 1;
-    format!(in heap; "{hour:02}:00–{end:02}:00")
+impl Display for Hour {
+    fn fmt<W: Write>(&self, f: &mut Formatter<W>) -> fmt::Result {
+        let start = u32::from(self.0);
+        pad(f, format_args!("{start:02}:00–{:02}:00", start + 1))
+    }
 }

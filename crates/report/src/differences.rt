@@ -1,13 +1,10 @@
 // Two statements of one site, and how the second differs from the first.
-use crate::columns::{
-    HOURS_HEADING, end_line, put_cent_change, put_cents, put_dollar_change, put_dollars,
-    put_event_hour, put_kwh_change, put_name, put_week,
-};
-use crate::room::NoRoom;
-use calendar::last_week;
-use std::alloc::Global;
-use std::fmt::Write;
-use tariff::statement::{HourLine, Statement, WeekLine};
+use crate::columns::{EventHour, HOURS_HEADING, Week};
+use crate::figures::{Cents, Dollars, Kwh, difference};
+use crate::telling::Written;
+use std::fmt;
+use std::fmt::{Display, Formatter, Write};
+use tariff::statement::{HourLine, WeekLine};
 
 // The heading of the weeks that differ.
 const WEEKS_HEADING: &str = "     week  begins          counted kWh      capacity pay";
@@ -16,167 +13,131 @@ const WEEKS_HEADING: &str = "     week  begins          counted kWh      capacit
 const TOTALS_HEADING: &str =
     "                                                               first              second          difference";
 
-fn write_hour_change(
-    out: &mut String,
-    heap: Global,
+// The changes of an event hour, in a row of the table of event hours.
+#[derive(Clone, Copy)]
+struct HourChange<'a> {
     year: u32,
-    one: &HourLine,
-    two: &HourLine,
-) -> Result<(), NoRoom> {
-    put_event_hour(out, heap, year, one)?;
-    put_kwh_change(out, heap, one.base / 3, two.base / 3)?;
-    put_kwh_change(out, heap, one.adjusted / 30, two.adjusted / 30)?;
-    put_kwh_change(out, heap, one.reduction, two.reduction)?;
-    put_kwh_change(out, heap, one.shortfall, two.shortfall)?;
-    put_dollar_change(out, heap, 15, one.energy, two.energy)?;
-    put_dollar_change(out, heap, 15, one.adjustment, two.adjustment)?;
-    end_line(out)
+    one: &'a HourLine,
+    two: &'a HourLine,
 }
 
-// An event hour, where the two differ in it.
-fn write_hour_if_changed(
-    out: &mut String,
-    heap: Global,
-    year: u32,
-    one: &HourLine,
-    two: &HourLine,
-) -> Result<(), NoRoom> {
-    if one == two {
-        return Ok(());
-    }
-    write_hour_change(out, heap, year, one, two)
-}
-
-// The event hours in which the two differ.
-fn write_hour_changes(
-    out: &mut String,
-    heap: Global,
-    year: u32,
-    one: &Statement,
-    two: &Statement,
-) -> Result<(), NoRoom> {
-    if one.hours == two.hours {
-        writeln!(out, "    The event hours are the same.")?;
-        return Ok(());
-    }
-    writeln!(out, "{HOURS_HEADING}")?;
-    for (first, second) in one.hours.iter().zip(two.hours.iter()) {
-        write_hour_if_changed(out, heap, year, first, second)?;
-    }
-    Ok(())
-}
-
-// A week, where the two differ in it: a site's nomination, the event hours and the programme days are the same in both.
-fn write_week_if_changed(
-    out: &mut String,
-    heap: Global,
-    year: u32,
-    week: u32,
-    one: &WeekLine,
-    two: &WeekLine,
-) -> Result<(), NoRoom> {
-    if one == two {
-        return Ok(());
-    }
-    put_week(out, heap, year, week)?;
-    put_kwh_change(out, heap, one.counted, two.counted)?;
-    put_dollar_change(out, heap, 17, one.capacity, two.capacity)?;
-    end_line(out)
-}
-
-// The weeks in which the two differ.
-fn write_week_changes(
-    out: &mut String,
-    heap: Global,
-    year: u32,
-    one: &Statement,
-    two: &Statement,
-) -> Result<(), NoRoom> {
-    if one.weeks == two.weeks {
-        writeln!(out, "    The weeks are the same.")?;
-        return Ok(());
-    }
-    writeln!(out, "{WEEKS_HEADING}")?;
-    for place in 0..last_week(year) {
-        let first = &one.weeks[place as usize];
-        let second = &two.weeks[place as usize];
-        write_week_if_changed(out, heap, year, place + 1, first, second)?;
-    }
-    Ok(())
-}
-
-fn write_total_change(
-    out: &mut String,
-    heap: Global,
-    name: &str,
-    first: u64,
-    second: u64,
-) -> Result<(), NoRoom> {
-    put_name(out, name)?;
-    put_dollars(out, heap, 19, first)?;
-    put_dollars(out, heap, 19, second)?;
-    put_dollar_change(out, heap, 19, first, second)?;
-    end_line(out)
-}
-
-fn write_paid_change(
-    out: &mut String,
-    heap: Global,
-    first: u64,
-    second: u64,
-) -> Result<(), NoRoom> {
-    put_name(out, "paid, in whole cents")?;
-    put_cents(out, heap, 16, first)?;
-    put_cents(out, heap, 19, second)?;
-    put_cent_change(out, heap, 19, first, second)?;
-    end_line(out)
-}
-
-// The totals of both, and how they differ.
-fn write_total_changes(
-    out: &mut String,
-    heap: Global,
-    one: &Statement,
-    two: &Statement,
-) -> Result<(), NoRoom> {
-    writeln!(out, "{TOTALS_HEADING}")?;
-    write_total_change(
-        out,
-        heap,
-        "all capacity and energy pay",
-        one.incentive,
-        two.incentive,
-    )?;
-    write_total_change(out, heap, "all adjustments", one.charged, two.charged)?;
-    write_total_change(
-        out,
-        heap,
-        "adjustments taken off, at most all the pay",
-        one.taken,
-        two.taken,
-    )?;
-    write_total_change(out, heap, "net", one.net, two.net)?;
-    write_paid_change(out, heap, one.paid, two.paid)
-}
-
-// How the second statement of a site differs from the first, line by line where they differ.
-pub(crate) fn write_differences(
-    out: &mut String,
-    heap: Global,
-    year: u32,
-    one: &Statement,
-    two: &Statement,
-) -> Result<(), NoRoom> {
-    if one == two {
-        writeln!(
-            out,
-            "    Nothing differs: every line and every total is the same."
+impl Display for HourChange<'_> {
+    fn fmt<W: Write>(&self, f: &mut Formatter<W>) -> fmt::Result {
+        let HourChange { year, one, two } = *self;
+        let hour = EventHour::of(year, one);
+        let baseline = difference(Kwh, one.base / 3, two.base / 3);
+        let adjusted = difference(Kwh, one.adjusted / 30, two.adjusted / 30);
+        let shed = difference(Kwh, one.reduction, two.reduction);
+        let short = difference(Kwh, one.shortfall, two.shortfall);
+        let energy = difference(Dollars, one.energy, two.energy);
+        let adjustment = difference(Dollars, one.adjustment, two.adjustment);
+        write!(
+            f,
+            "{hour} {baseline:>12} {adjusted:>12} {shed:>12} {short:>12}"
         )?;
-        return Ok(());
+        write!(f, " {energy:>15} {adjustment:>15}")
     }
-    write_hour_changes(out, heap, year, one, two)?;
-    end_line(out)?;
-    write_week_changes(out, heap, year, one, two)?;
-    end_line(out)?;
-    write_total_changes(out, heap, one, two)
+}
+
+// The changes of a week: a site's nomination, the event hours and the programme days are the same in both statements.
+#[derive(Clone, Copy)]
+struct WeekChange<'a> {
+    week: Week,
+    one: &'a WeekLine,
+    two: &'a WeekLine,
+}
+
+impl Display for WeekChange<'_> {
+    fn fmt<W: Write>(&self, f: &mut Formatter<W>) -> fmt::Result {
+        let WeekChange { week, one, two } = *self;
+        let counted = difference(Kwh, one.counted, two.counted);
+        let capacity = difference(Dollars, one.capacity, two.capacity);
+        write!(f, "{week} {counted:>12} {capacity:>17}")
+    }
+}
+
+// How the second statement of a site differs from the first, line by line where they differ, each line with its end.
+#[derive(Clone, Copy)]
+pub(crate) struct Differences<'a> {
+    pub one: Written<'a>,
+    pub two: Written<'a>,
+}
+
+impl Differences<'_> {
+    fn write_hours<W: Write>(self, f: &mut Formatter<W>) -> fmt::Result {
+        let year = self.one.year;
+        let (first, second) = (&self.one.statement.hours, &self.two.statement.hours);
+        if first == second {
+            return writeln!(f, "    The event hours are the same.");
+        }
+        writeln!(f, "{HOURS_HEADING}")?;
+        for (one, two) in first.iter().zip(second.iter()) {
+            if one != two {
+                writeln!(f, "{}", HourChange { year, one, two })?;
+            }
+        }
+        Ok(())
+    }
+
+    fn write_weeks<W: Write>(self, f: &mut Formatter<W>) -> fmt::Result {
+        let year = self.one.year;
+        if self.one.statement.weeks == self.two.statement.weeks {
+            return writeln!(f, "    The weeks are the same.");
+        }
+        writeln!(f, "{WEEKS_HEADING}")?;
+        for ((number, one), two) in self.one.week_lines().zip(self.two.statement.weeks.iter()) {
+            if one != two {
+                let week = Week { year, number };
+                writeln!(f, "{}", WeekChange { week, one, two })?;
+            }
+        }
+        Ok(())
+    }
+
+    fn write_totals<W: Write>(self, f: &mut Formatter<W>) -> fmt::Result {
+        let (one, two) = (self.one.statement, self.two.statement);
+        writeln!(f, "{TOTALS_HEADING}")?;
+        for (name, first, second) in [
+            ("all capacity and energy pay", one.incentive, two.incentive),
+            ("all adjustments", one.charged, two.charged),
+            (
+                "adjustments taken off, at most all the pay",
+                one.taken,
+                two.taken,
+            ),
+            ("net", one.net, two.net),
+        ] {
+            let changed = difference(Dollars, first, second);
+            let first = Dollars(first);
+            let second = Dollars(second);
+            writeln!(
+                f,
+                "    {name:<44} {first:>19} {second:>19} {changed:>19}"
+            )?;
+        }
+        let name = "paid, in whole cents";
+        let changed = difference(Cents, one.paid, two.paid);
+        let first = Cents(one.paid);
+        let second = Cents(two.paid);
+        writeln!(
+            f,
+            "    {name:<44} {first:>16} {second:>19} {changed:>19}"
+        )
+    }
+}
+
+impl Display for Differences<'_> {
+    fn fmt<W: Write>(&self, f: &mut Formatter<W>) -> fmt::Result {
+        if self.one.statement == self.two.statement {
+            return writeln!(
+                f,
+                "    Nothing differs: every line and every total is the same."
+            );
+        }
+        self.write_hours(f)?;
+        writeln!(f, "")?;
+        self.write_weeks(f)?;
+        writeln!(f, "")?;
+        self.write_totals(f)
+    }
 }

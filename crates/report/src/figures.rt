@@ -1,64 +1,99 @@
 // Figures as people read them: thousands apart, kWh of a whole Wh, dollars of a millicent or of a cent.
-use std::alloc::{AllocError, Global};
+use std::cmp::Ordering;
+use std::fmt;
+use std::fmt::{Display, Formatter, InlineText, Write};
 
-// A number with a comma between its thousands.
-pub(crate) fn grouped(heap: Global, number: u64) -> Result<String, AllocError> {
-    let digits = format!(in heap; "{number}")?;
-    let count = digits.len();
-    let mut text = String::new(heap);
-    for (place, digit) in digits.as_str().chars().enumerate() {
-        if place > 0 && count.saturating_sub(place) % 3 == 0 {
-            text.push(',')?;
-        }
-        text.push(digit)?;
+// Writes a figure or a date, none of which is longer than 32 bytes, padded as a whole to the width that is asked for.
+pub(crate) fn pad<W: Write>(f: &mut Formatter<W>, text: impl Display + Drop) -> fmt::Result {
+    f.pad(InlineText::<32>::of(text).as_str())
+}
+
+// The digits of a number with a comma between its thousands.
+fn with_commas(number: u64) -> InlineText<32> {
+    if number < 1000 {
+        return InlineText::of(number);
     }
-    Ok(text)
+    let thousands = with_commas(number / 1000);
+    InlineText::of(format_args!("{},{:03}", thousands.as_str(), number % 1000))
 }
 
-// An amount in Wh, in kWh.
-pub(crate) fn kwh(heap: Global, wh: u64) -> Result<String, AllocError> {
-    let whole = grouped(heap, wh / 1000)?;
-    let part = wh % 1000;
-    format!(in heap; "{whole}.{part:03}")
+// A number, shown with a comma between its thousands.
+#[derive(Clone, Copy)]
+pub(crate) struct Grouped(pub u64);
+
+impl Display for Grouped {
+    fn fmt<W: Write>(&self, f: &mut Formatter<W>) -> fmt::Result {
+        f.pad(with_commas(self.0).as_str())
+    }
 }
 
-// An amount in millicents, in dollars.
-pub(crate) fn dollars(heap: Global, millicents: u64) -> Result<String, AllocError> {
-    let whole = grouped(heap, millicents / 100_000)?;
-    let part = millicents % 100_000;
-    format!(in heap; "${whole}.{part:05}")
+// An amount in Wh, shown in kWh.
+#[derive(Clone, Copy)]
+pub(crate) struct Kwh(pub u64);
+
+impl Display for Kwh {
+    fn fmt<W: Write>(&self, f: &mut Formatter<W>) -> fmt::Result {
+        let Kwh(wh) = *self;
+        pad(f, format_args!("{}.{:03}", Grouped(wh / 1000), wh % 1000))
+    }
 }
 
-// An amount in cents, in dollars.
-pub(crate) fn dollars_of_cents(heap: Global, cents: u64) -> Result<String, AllocError> {
-    let whole = grouped(heap, cents / 100)?;
-    let part = cents % 100;
-    format!(in heap; "${whole}.{part:02}")
+// An amount in millicents, shown in dollars.
+#[derive(Clone, Copy)]
+pub(crate) struct Dollars(pub u64);
+
+impl Display for Dollars {
+    fn fmt<W: Write>(&self, f: &mut Formatter<W>) -> fmt::Result {
+        let Dollars(millicents) = *self;
+        pad(
+            f,
+            format_args!(
+                "${}.{:05}",
+                Grouped(millicents / 100_000),
+                millicents % 100_000
+            ),
+        )
+    }
+}
+
+// An amount in cents, shown in dollars.
+#[derive(Clone, Copy)]
+pub(crate) struct Cents(pub u64);
+
+impl Display for Cents {
+    fn fmt<W: Write>(&self, f: &mut Formatter<W>) -> fmt::Result {
+        let Cents(cents) = *self;
+        pad(
+            f,
+            format_args!("${}.{:02}", Grouped(cents / 100), cents % 100),
+        )
+    }
 }
 
 // How one amount differs from another: a sign, and by how much.
 #[derive(Clone, Copy)]
-pub(crate) struct Difference {
-    pub sign: &'static str,
-    pub amount: u64,
+pub(crate) struct Change<T> {
+    sign: &'static str,
+    amount: T,
 }
 
-// What the second amount has more or less than the first.
-pub(crate) fn change(first: u64, second: u64) -> Difference {
-    if second > first {
-        Difference {
-            sign: "+",
-            amount: second - first,
-        }
-    } else if second < first {
-        Difference {
-            sign: "-",
-            amount: first - second,
-        }
-    } else {
-        Difference {
-            sign: "",
-            amount: 0,
-        }
+// What the second amount has more or less than the first, shown as the type does that is named: `difference(Kwh, 1000, 3500)` is +2.500.
+pub(crate) fn difference<T, F: FnOnce(u64) -> T>(shown: F, first: u64, second: u64) -> Change<T>
+    requires { F.IsAlwaysCallable shown }
+{
+    let sign = match second.cmp(&first) {
+        Ordering::Greater => "+",
+        Ordering::Less => "-",
+        Ordering::Equal => "",
+    };
+    Change {
+        sign,
+        amount: shown(first.abs_diff(second)),
+    }
+}
+
+impl<T: Display> Display for Change<T> {
+    fn fmt<W: Write>(&self, f: &mut Formatter<W>) -> fmt::Result {
+        pad(f, format_args!("{}{}", self.sign, self.amount))
     }
 }

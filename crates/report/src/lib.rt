@@ -10,7 +10,10 @@ mod gaps;
 mod meters;
 pub mod people;
 mod refusals;
-pub mod room;
 pub mod rows;
 pub mod settled;
 mod tables;
+mod telling;
+
+// What stands before a line that tells what came of a step.
+pub(crate) const INDENT: &str = "           ";

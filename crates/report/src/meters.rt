@@ -1,45 +1,55 @@
-// The meters of a batch by their names.
+// The meters of a batch, by their places in its list.
+use crate::settled::HandedIn;
 use batch::plan::BatchMeter;
 use std::alloc::{AllocError, Global};
+use std::collections::BTreeSet;
 
-// The name of the meter at a place of the list.
-pub(crate) fn name_at<'a>(meters: &[BatchMeter<'a>], place: usize) -> &'a str {
-    match meters.get(place) {
-        Some(BatchMeter::Table { name, .. }) => name,
-        Some(BatchMeter::Pair { name, .. }) => name,
-        None => "",
+#[derive(Clone, Copy)]
+pub(crate) struct Meters<'a> {
+    pub heap: Global,
+    pub list: &'a [HandedIn<'a>],
+}
+
+// The name of a meter.
+fn name_of<'a>(meter: &BatchMeter<'a>) -> &'a str {
+    match *meter {
+        BatchMeter::Table { name, .. } | BatchMeter::Pair { name, .. } => name,
     }
 }
 
-// Which meters of a list stand in the ones marked: the marked ones, and the two meters of a pair that is so. Those of a pair stand
-// before it.
-fn spread(marked: &mut Vec<bool>, meters: &[BatchMeter<'_>]) {
-    for place in (0..meters.len()).rev() {
-        if marked.get(place).copied().unwrap_or(false) {
-            if let BatchMeter::Pair { first, second, .. } = meters[place] {
-                mark(marked, first);
-                mark(marked, second);
+impl<'a> Meters<'a> {
+    // The name of the meter at a place.
+    pub(crate) fn name_at(self, place: usize) -> &'a str {
+        self.list
+            .get(place)
+            .map_or("", |handed| name_of(&handed.meter))
+    }
+
+    // The places of the meters that stand in those at some places: these, and the two of each pair that is among them. The two of a
+    // pair stand before it.
+    fn places_in(self, places: &[usize]) -> Result<BTreeSet<usize>, AllocError> {
+        let mut within = BTreeSet::new(self.heap);
+        for place in places {
+            within.insert(*place)?;
+        }
+        for (place, handed) in self.list.iter().enumerate().rev() {
+            if let BatchMeter::Pair { first, second, .. } = handed.meter
+                && within.contains(&place)
+            {
+                within.insert(first)?;
+                within.insert(second)?;
             }
         }
+        Ok(within)
     }
-}
 
-fn mark(marked: &mut Vec<bool>, place: usize) {
-    if let Some(mark) = marked.get_mut(place) {
-        *mark = true;
+    // The meters that stand in those at some places, in the order of the batch.
+    pub(crate) fn standing_in(self, places: &[usize]) -> Result<Vec<BatchMeter<'a>>, AllocError> {
+        let within = self.places_in(places)?;
+        within
+            .iter()
+            .filter_map(|place| self.list.get(*place))
+            .map(|handed| handed.meter)
+            .collect(self.heap)
     }
-}
-
-// Which meters of a list stand in one or the other of two, place by place.
-pub(crate) fn standing_in(
-    heap: Global,
-    meters: &[BatchMeter<'_>],
-    first: usize,
-    second: usize,
-) -> Result<Vec<bool>, AllocError> {
-    let mut marked = vec![in heap; false; meters.len()]?;
-    mark(&mut marked, first);
-    mark(&mut marked, second);
-    spread(&mut marked, meters);
-    Ok(marked)
 }

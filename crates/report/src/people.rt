@@ -1,19 +1,19 @@
 // The report that people read.
-use crate::calls::{write_answer, write_call, write_written};
-use crate::differences::write_differences;
-use crate::gaps::{AskedOf, write_refused};
-use crate::meters::name_at;
-use crate::refusals::{call_refused, reading_refused};
-use crate::room::NoRoom;
-use crate::settled::{Settled, Told};
-use crate::tables::write_statement;
-use batch::plan::{BatchMeter, Step, Task};
+use crate::INDENT;
+use crate::calls::{Answered, Asked, Count};
+use crate::differences::Differences;
+use crate::gaps::Unstated;
+use crate::meters::Meters;
+use crate::refusals::Refused;
+use crate::settled::{HandedIn, Settled};
+use crate::tables::Tables;
+use crate::telling::{Compared, Stated, Teller, Told, Written};
+use batch::plan::BatchMeter;
 use meter::kind::TableKind;
-use settlement::results::{Outcome, RefusedReading};
-use std::alloc::Global;
-use std::fmt::Write;
-use tariff::call::SeasonRefusal;
-use tariff::statement::StatementRefusal;
+use settlement::results::{Counts, RefusedReading};
+use std::alloc::{AllocError, Global};
+use std::fmt;
+use std::fmt::{Display, Formatter, Write};
 
 // How to read the tables of a statement.
 const LEGEND: &str = "\
@@ -24,296 +24,228 @@ shed, in each hour at most 120 % of the nomination. Capacity pay is for being re
 fourth event on, and adjustments are charged for what was short. Baselines are rounded down to the Wh.
 ";
 
-fn write_table_meter(
-    out: &mut String,
-    name: &str,
-    kind: TableKind,
-    number: u32,
-    file: &str,
-) -> Result<(), NoRoom> {
+// How often a table has readings.
+fn readings_of(kind: TableKind) -> &'static str {
     match kind {
-        TableKind::Hourly => writeln!(
-            out,
-            "meter {name}, made with number {number}: hourly readings of {file}"
-        )?,
-        TableKind::Quarter => writeln!(
-            out,
-            "meter {name}, made with number {number}: quarter-hourly readings of {file}"
-        )?,
+        TableKind::Hourly => "hourly",
+        TableKind::Quarter => "quarter-hourly",
     }
-    Ok(())
 }
 
-// The readings of a meter's file that were refused.
-fn write_readings(
-    out: &mut String,
+// What is said of the readings of a file: those that were refused, or that all were taken.
+fn write_readings<W: Write>(
+    f: &mut Formatter<W>,
     kind: TableKind,
     file: &str,
     refused: &[RefusedReading],
-) -> Result<(), NoRoom> {
+) -> fmt::Result {
     if refused.is_empty() {
-        writeln!(out, "           every reading taken")?;
+        return writeln!(f, "{INDENT}every reading taken");
     }
     for reading in refused {
-        let line = reading.line;
-        let number = reading.refusal.number();
-        let meaning = reading_refused(reading.refusal, kind);
-        writeln!(
-            out,
-            "           {file} line {line} refused, number {number}: {meaning}"
-        )?;
+        let why = Refused::reading(reading.refusal, kind);
+        writeln!(f, "{INDENT}{file} line {} {why}", reading.line)?;
     }
     Ok(())
 }
 
-fn write_meter(out: &mut String, settled: &Settled<'_>, place: usize) -> Result<(), NoRoom> {
-    match settled.meters.get(place) {
-        Some(
+// Two statements, on the meters of two names, and how they differ.
+fn write_both<W: Write>(
+    f: &mut Formatter<W>,
+    (first, second): (&str, &str),
+    (one, two): (Written<'_>, Written<'_>),
+) -> fmt::Result {
+    writeln!(
+        f,
+        "{INDENT}written, with {} each",
+        Count(one.hours, "event hour")
+    )?;
+    writeln!(f, "\n    First summer, on meter {first}\n\n{}", Tables(one))?;
+    writeln!(f, "    Second summer, on meter {second}\n\n{}", Tables(two))?;
+    write!(
+        f,
+        "    The difference: the second summer, on meter {second}, "
+    )?;
+    writeln!(
+        f,
+        "less the first, on meter {first}\n\n{}",
+        Differences { one, two }
+    )
+}
+
+// What a report says of a step and of what came of it, each line with its end.
+#[derive(Clone, Copy)]
+struct Paragraph<'a> {
+    meters: Meters<'a>,
+    told: Told<'a>,
+}
+
+impl Paragraph<'_> {
+    // A meter with its readings, or a pair with its two meters.
+    fn write_meter<W: Write>(self, f: &mut Formatter<W>, handed: &HandedIn<'_>) -> fmt::Result {
+        match handed.meter {
             BatchMeter::Table {
                 name,
                 kind,
                 number,
                 file,
-            },
-        ) => {
-            write_table_meter(out, name, *kind, *number, file)?;
-            match settled.refused.get(place) {
-                Some(refused) => write_readings(out, *kind, file, refused.as_slice()),
-                None => Ok(()),
+            } => {
+                let often = readings_of(kind);
+                writeln!(
+                    f,
+                    "meter {name}, made with number {number}: {often} readings of {file}"
+                )?;
+                write_readings(f, kind, file, handed.refused.as_slice())
             }
-        }
-        Some(
             BatchMeter::Pair {
                 name,
                 first,
                 second,
-            },
-        ) => {
-            let first = name_at(settled.meters.as_slice(), *first);
-            let second = name_at(settled.meters.as_slice(), *second);
-            writeln!(out, "meter {name}: the pair of {first} and {second}")?;
-            Ok(())
+            } => {
+                let first = self.meters.name_at(first);
+                let second = self.meters.name_at(second);
+                writeln!(f, "meter {name}: the pair of {first} and {second}")
+            }
         }
-        None => Ok(()),
     }
-}
 
-// What a step asks for.
-fn write_task(
-    out: &mut String,
-    heap: Global,
-    settled: &Settled<'_>,
-    year: Option<u32>,
-    task: Task,
-) -> Result<(), NoRoom> {
-    match task {
-        Task::Open { year } => {
-            writeln!(out, "open the season of {year}")?;
-            Ok(())
+    // A statement with its tables, or why there is none.
+    fn write_stated<W: Write>(self, f: &mut Formatter<W>, stated: Stated<'_>) -> fmt::Result {
+        let Stated {
+            year,
+            site,
+            meter,
+            answer,
+        } = stated;
+        let meters = self.meters;
+        writeln!(
+            f,
+            "statement of site {site} on meter {}",
+            meters.name_at(meter)
+        )?;
+        match answer {
+            Ok(written) => {
+                let hours = Count(written.hours, "event hour");
+                writeln!(f, "{INDENT}written, with {hours}\n\n{}", Tables(written))
+            }
+            Err(refusal) => {
+                let asked = &[meter];
+                write!(
+                    f,
+                    "{}",
+                    Unstated {
+                        meters,
+                        year,
+                        asked,
+                        refusal
+                    }
+                )
+            }
         }
-        Task::Call { call } => write_call(out, heap, year, call),
-        Task::Meter { meter } => write_meter(out, settled, meter),
-        Task::Statement { site, meter } => {
-            let name = name_at(settled.meters.as_slice(), meter);
-            writeln!(out, "statement of site {site} on meter {name}")?;
-            Ok(())
-        }
-        Task::Compare {
+    }
+
+    // Two statements with their tables and how they differ, or why there are none.
+    fn write_compared<W: Write>(self, f: &mut Formatter<W>, compared: Compared<'_>) -> fmt::Result {
+        let Compared {
+            year,
             site,
             first,
             second,
-        } => {
-            let one = name_at(settled.meters.as_slice(), first);
-            let two = name_at(settled.meters.as_slice(), second);
-            writeln!(out, "compare site {site} on meter {one} and on meter {two}")?;
-            Ok(())
+            answer,
+        } = compared;
+        let meters = self.meters;
+        let names = (meters.name_at(first), meters.name_at(second));
+        writeln!(
+            f,
+            "compare site {site} on meter {} and on meter {}",
+            names.0, names.1
+        )?;
+        match answer {
+            Ok(both) => write_both(f, names, both),
+            Err(refusal) => {
+                let asked = &[first, second];
+                write!(
+                    f,
+                    "{}",
+                    Unstated {
+                        meters,
+                        year,
+                        asked,
+                        refusal
+                    }
+                )
+            }
         }
     }
 }
 
-fn write_call_refused(out: &mut String, refusal: SeasonRefusal) -> Result<(), NoRoom> {
-    let number = refusal.number();
-    let meaning = call_refused(refusal);
-    writeln!(out, "refused, number {number}: {meaning}")?;
-    Ok(())
-}
-
-// The statement that comes next, with its tables.
-fn write_next(
-    out: &mut String,
-    heap: Global,
-    settled: &Settled<'_>,
-    told: Told,
-    hours: u32,
-) -> Result<(), NoRoom> {
-    let (Some(year), Some(statement)) = (told.year, settled.done.statements.get(told.statements))
-    else {
-        return Ok(());
-    };
-    write_statement(out, heap, year, statement, hours)
-}
-
-// Both statements of a compare, and how they differ.
-fn write_both(
-    out: &mut String,
-    heap: Global,
-    settled: &Settled<'_>,
-    told: Told,
-    asked: AskedOf,
-    hours: u32,
-) -> Result<(), NoRoom> {
-    let next = told.statements.saturating_add(1);
-    let (Some(year), Some(one), Some(two)) = (
-        told.year,
-        settled.done.statements.get(told.statements),
-        settled.done.statements.get(next),
-    ) else {
-        return Ok(());
-    };
-    let first = name_at(settled.meters.as_slice(), asked.first);
-    let second = name_at(settled.meters.as_slice(), asked.second);
-    writeln!(out, "\n    First summer, on meter {first}\n")?;
-    write_statement(out, heap, year, one, hours)?;
-    writeln!(out, "\n    Second summer, on meter {second}\n")?;
-    write_statement(out, heap, year, two, hours)?;
-    writeln!(
-        out,
-        "\n    The difference: the second summer, on meter {second}, less the first, on meter {first}\n"
-    )?;
-    write_differences(out, heap, year, one, two)
-}
-
-// The meters that a task is settled on.
-fn asked_of(task: Task) -> AskedOf {
-    match task {
-        Task::Statement { meter, .. } => AskedOf {
-            first: meter,
-            second: meter,
-        },
-        Task::Compare { first, second, .. } => AskedOf { first, second },
-        _ => AskedOf {
-            first: 0,
-            second: 0,
-        },
-    }
-}
-
-// What came of one statement or of two.
-fn write_stated(
-    out: &mut String,
-    heap: Global,
-    settled: &Settled<'_>,
-    told: Told,
-    task: Task,
-    answer: Result<u32, StatementRefusal>,
-) -> Result<(), NoRoom> {
-    let asked = asked_of(task);
-    match (answer, task) {
-        (Ok(hours), Task::Compare { .. }) => {
-            write_written(out, hours, " each")?;
-            write_both(out, heap, settled, told, asked, hours)
+impl Display for Paragraph<'_> {
+    fn fmt<W: Write>(&self, f: &mut Formatter<W>) -> fmt::Result {
+        match self.told {
+            Told::Opened { year, answer } => {
+                writeln!(f, "open the season of {year}")?;
+                match answer {
+                    Ok(week) => writeln!(f, "{INDENT}opened, with weeks 1 to {week}"),
+                    Err(refusal) => writeln!(f, "{INDENT}{}", Refused::from(refusal)),
+                }
+            }
+            Told::Called { year, call, answer } => {
+                writeln!(f, "{}", Asked { year, call })?;
+                match answer {
+                    Ok(answer) => writeln!(f, "{INDENT}{}", Answered(answer)),
+                    Err(refusal) => writeln!(f, "{INDENT}{}", Refused::from(refusal)),
+                }
+            }
+            Told::Metered(handed) => self.write_meter(f, handed),
+            Told::Stated(stated) => self.write_stated(f, stated),
+            Told::Compared(compared) => self.write_compared(f, compared),
         }
-        (Ok(hours), _) => {
-            write_written(out, hours, "")?;
-            writeln!(out, "")?;
-            write_next(out, heap, settled, told, hours)
-        }
-        (Err(refusal), _) => write_refused(out, heap, settled, told.year, asked, refusal),
     }
-}
-
-// What came of a step.
-fn write_outcome(
-    out: &mut String,
-    heap: Global,
-    settled: &Settled<'_>,
-    told: Told,
-    task: Task,
-    outcome: Outcome,
-) -> Result<(), NoRoom> {
-    match outcome {
-        Outcome::Metered => return Ok(()),
-        _ => write!(out, "           ")?,
-    }
-    match outcome {
-        Outcome::Opened(Ok(week)) => {
-            writeln!(out, "opened, with weeks 1 to {week}")?;
-            Ok(())
-        }
-        Outcome::Called(Ok(answer)) => write_answer(out, answer),
-        Outcome::Opened(Err(refusal)) => write_call_refused(out, refusal),
-        Outcome::Called(Err(refusal)) => write_call_refused(out, refusal),
-        Outcome::Metered => Ok(()),
-        Outcome::Stated(answer) => write_stated(out, heap, settled, told, task, answer),
-        Outcome::Compared(answer) => write_stated(out, heap, settled, told, task, answer),
-    }
-}
-
-fn write_step(
-    out: &mut String,
-    heap: Global,
-    settled: &Settled<'_>,
-    told: Told,
-    step: &Step,
-    outcome: &Outcome,
-) -> Result<(), NoRoom> {
-    let line = step.line;
-    write!(out, "line {line:>4}  ")?;
-    write_task(out, heap, settled, told.year, step.task)?;
-    write_outcome(out, heap, settled, told, step.task, *outcome)?;
-    match *outcome {
-        Outcome::Stated(Ok(_)) => writeln!(out, "")?,
-        Outcome::Compared(Ok(_)) => writeln!(out, "")?,
-        _ => {}
-    }
-    Ok(())
 }
 
 // The line that is read aloud.
-fn write_counts(out: &mut String, settled: &Settled<'_>) -> Result<(), NoRoom> {
-    let label = settled.label;
-    let sites = settled.counts.sites;
-    let meter_hours = settled.counts.meter_hours;
-    let event_hours = settled.counts.event_hours;
-    let statements = settled.counts.statements;
+fn write_counts(text: &mut String, label: &str, counts: Counts) -> Result<(), AllocError> {
+    let Counts {
+        sites,
+        meter_hours,
+        event_hours,
+        statements,
+    } = counts;
     write!(
-        out,
+        text,
         "batch {label}: sites in {sites}, meter hours in {meter_hours}, "
     )?;
     writeln!(
-        out,
+        text,
         "event hours out {event_hours}, statements out {statements}"
-    )?;
-    Ok(())
-}
-
-// What is written of the steps, one after another.
-fn write_steps(
-    out: &mut String,
-    heap: Global,
-    settled: &Settled<'_>,
-    steps: &[Step],
-) -> Result<(), NoRoom> {
-    let mut told = Told::nothing();
-    for (step, outcome) in steps.iter().zip(settled.done.outcomes.iter()) {
-        write_step(out, heap, settled, told, step, outcome)?;
-        told = told.and(step, outcome);
-    }
-    Ok(())
+    )
 }
 
 // The report of a settled batch.
-pub fn report(heap: Global, settled: &Settled<'_>) -> Result<String, NoRoom> {
-    let mut text = String::new(heap);
+pub fn report(heap: Global, settled: &Settled<'_>) -> Result<String, AllocError> {
     let label = settled.label;
-    writeln!(text, "Batch {label}\n")?;
+    let mut text = format!(in heap; "Batch {label}\n\n")?;
     if settled.counts.statements > 0 {
         writeln!(text, "{LEGEND}")?;
     }
-    write_steps(&mut text, heap, settled, settled.steps.as_slice())?;
+    let meters = Meters {
+        heap,
+        list: settled.meters.as_slice(),
+    };
+    let mut teller = Teller::new(settled);
+    for (step, outcome) in settled.steps.iter().zip(settled.done.outcomes.iter()) {
+        if let Some(told) = teller.tell(step.task, *outcome) {
+            write!(
+                text,
+                "line {:>4}  {}",
+                step.line,
+                Paragraph { meters, told }
+            )?;
+        }
+    }
     if !text.as_str().ends_with("\n\n") {
         writeln!(text, "")?;
     }
-    write_counts(&mut text, settled)?;
+    write_counts(&mut text, label, settled.counts)?;
     Ok(text)
 }

@@ -1,287 +1,247 @@
 // The rows that spreadsheets and other programs read.
-use crate::room::NoRoom;
-use crate::settled::{Settled, Told};
-use batch::plan::{BatchMeter, Step, Task};
-use calendar::last_week;
-use settlement::results::Outcome;
+use crate::settled::{HandedIn, Settled};
+use crate::telling::{Compared, Stated, Teller, Told, Written};
+use batch::plan::BatchMeter;
+use settlement::results::Counts;
 use std::alloc::{AllocError, Global};
-use std::fmt::Write;
-use tariff::call::{Answer, Call, SeasonRefusal};
+use std::fmt;
+use std::fmt::{Display, Formatter, Write};
+use tariff::call::{Answer, Call};
 use tariff::fault::{BaselineFault, HourGap};
 use tariff::reading::Gap;
-use tariff::statement::{EventFault, HourLine, Statement, StatementRefusal};
+use tariff::statement::{EventFault, HourLine, Statement, StatementRefusal, WeekLine};
 
 // A text as a field: as it stands, or between quotes with its own quotes doubled where it has a comma or a quote.
-fn field(heap: Global, text: &str) -> Result<String, AllocError> {
-    if !text.contains(',') && !text.contains('"') {
-        return String::from_str(heap, text);
-    }
-    let mut quoted = String::from_str(heap, "\"")?;
-    for letter in text.chars() {
-        if letter == '"' {
-            quoted.push('"')?;
+#[derive(Clone, Copy)]
+struct Field<'a>(&'a str);
+
+impl Display for Field<'_> {
+    fn fmt<W: Write>(&self, f: &mut Formatter<W>) -> fmt::Result {
+        let Field(text) = *self;
+        if !text.contains(',') && !text.contains('"') {
+            return f.write_str(text);
         }
-        quoted.push(letter)?;
-    }
-    quoted.push('"')?;
-    Ok(quoted)
-}
-
-// The word with which a line of the batch asks for a task.
-fn word_of(task: Task) -> &'static str {
-    match task {
-        Task::Open { .. } => "open",
-        Task::Call { call } => match call {
-            Call::Enrol { .. } => "enrol",
-            Call::Nominate { .. } => "nominate",
-            Call::Announce { .. } => "announce",
-            Call::Revoke { .. } => "revoke",
-            Call::Close => "close",
-        },
-        Task::Meter { .. } => "meter",
-        Task::Statement { .. } => "statement",
-        Task::Compare { .. } => "compare",
+        f.write_char('"')?;
+        f.write_joined(text.split('"'), "\"\"")?;
+        f.write_char('"')
     }
 }
 
-// The row of a call up to its answer.
-fn write_call(out: &mut String, step: &Step) -> Result<(), NoRoom> {
-    let line = step.line;
-    let word = word_of(step.task);
-    write!(out, "call,{line},{word},")?;
-    Ok(())
-}
-
-fn write_answer(out: &mut String, answer: Answer) -> Result<(), NoRoom> {
-    match answer {
-        Answer::Site(n) => writeln!(out, "answer,{n}")?,
-        Answer::Week(n) => writeln!(out, "answer,{n}")?,
-        Answer::Announced(n) => writeln!(out, "answer,{n}")?,
-        Answer::Revoked(n) => writeln!(out, "answer,{n}")?,
-        Answer::Closed(events, hours) => writeln!(out, "answer,{events},{hours}")?,
+// The word with which a line of the batch asks for a call.
+fn word_of(call: Call) -> &'static str {
+    match call {
+        Call::Enrol { .. } => "enrol",
+        Call::Nominate { .. } => "nominate",
+        Call::Announce { .. } => "announce",
+        Call::Revoke { .. } => "revoke",
+        Call::Close => "close",
     }
-    Ok(())
 }
 
-fn write_refused(out: &mut String, refusal: SeasonRefusal) -> Result<(), NoRoom> {
-    let number = refusal.number();
-    writeln!(out, "refused,{number}")?;
-    Ok(())
+// The answer of a call that was taken, by its numbers.
+#[derive(Clone, Copy)]
+struct Numbers(Answer);
+
+impl Display for Numbers {
+    fn fmt<W: Write>(&self, f: &mut Formatter<W>) -> fmt::Result {
+        match self.0 {
+            Answer::Site(n) | Answer::Week(n) | Answer::Announced(n) | Answer::Revoked(n) => {
+                write!(f, "{n}")
+            }
+            Answer::Closed(events, hours) => write!(f, "{events},{hours}"),
+        }
+    }
 }
 
-// A statement refused for an hour tells its event, its use, its day and its hour, and for a missing one the meter's number.
-fn write_gap(out: &mut String, event: u8, fault: BaselineFault) -> Result<(), NoRoom> {
-    let BaselineFault::HourWithoutLoad(HourGap {
-        gap,
-        purpose,
+// Why a statement was refused, by its number. One that is refused for an hour tells its event, its use, its day and its hour too, and
+// for a missing one the meter's number.
+#[derive(Clone, Copy)]
+struct Refusal(StatementRefusal);
+
+impl Display for Refusal {
+    fn fmt<W: Write>(&self, f: &mut Formatter<W>) -> fmt::Result {
+        let Refusal(refusal) = *self;
+        write!(f, "{}", refusal.number())?;
+        let StatementRefusal::EventWithoutBaseline(EventFault { event, fault }) = refusal else {
+            return Ok(());
+        };
+        let BaselineFault::HourWithoutLoad(HourGap {
+            gap,
+            purpose,
+            day,
+            hour,
+        }) = fault;
+        write!(f, ",{event},{},{day},{hour}", purpose.number())?;
+        match gap {
+            Gap::Missing(meter) => write!(f, ",{meter}"),
+            Gap::Over => Ok(()),
+        }
+    }
+}
+
+// The row of an event hour of a site's statement.
+fn write_hour<W: Write>(f: &mut Formatter<W>, site: u32, line: &HourLine) -> fmt::Result {
+    let HourLine {
+        event,
         day,
         hour,
-    }) = fault;
-    let number = gap.number();
-    let purpose = purpose.number();
-    match gap {
-        Gap::Missing(meter) => writeln!(
-            out,
-            "refused,{number},{event},{purpose},{day},{hour},{meter}"
-        )?,
-        Gap::Over => writeln!(out, "refused,{number},{event},{purpose},{day},{hour}")?,
-    }
-    Ok(())
+        base,
+        adjusted,
+        reduction,
+        shortfall,
+        energy,
+        adjustment,
+    } = *line;
+    write!(f, "hour,{site},{event},{day},{hour},{base},{adjusted},")?;
+    writeln!(f, "{reduction},{shortfall},{energy},{adjustment}")
 }
 
-fn write_unstated(out: &mut String, refusal: StatementRefusal) -> Result<(), NoRoom> {
-    match refusal {
-        StatementRefusal::EventWithoutBaseline(EventFault { event, fault }) => write_gap(out, event, fault),
-        _ => {
-            let number = refusal.number();
-            writeln!(out, "refused,{number}")?;
-            Ok(())
-        }
-    }
-}
-
-fn write_hour(out: &mut String, site: u32, line: &HourLine) -> Result<(), NoRoom> {
-    let event = line.event;
-    let day = line.day;
-    let hour = line.hour;
-    let base = line.base;
-    let adjusted = line.adjusted;
-    let reduction = line.reduction;
-    let shortfall = line.shortfall;
-    let energy = line.energy;
-    let adjustment = line.adjustment;
-    write!(out, "hour,{site},{event},{day},{hour},{base},{adjusted},")?;
-    writeln!(out, "{reduction},{shortfall},{energy},{adjustment}")?;
-    Ok(())
-}
-
-// A row for each week of the season.
-fn write_weeks(
-    out: &mut String,
+// The row of a week of a site's statement.
+fn write_week<W: Write>(
+    f: &mut Formatter<W>,
     site: u32,
-    year: u32,
-    statement: &Statement,
-) -> Result<(), NoRoom> {
-    for place in 0..last_week(year) {
-        let line = &statement.weeks[place as usize];
-        let week = place + 1;
-        let nomination = line.nomination;
-        let hours = line.hours;
-        let counted = line.counted;
-        let days = line.days;
-        let capacity = line.capacity;
+    week: u32,
+    line: &WeekLine,
+) -> fmt::Result {
+    let WeekLine {
+        nomination,
+        hours,
+        counted,
+        days,
+        capacity,
+    } = *line;
+    writeln!(
+        f,
+        "week,{site},{week},{nomination},{hours},{counted},{days},{capacity}"
+    )
+}
+
+// The row of the totals of a site's statement.
+fn write_totals<W: Write>(f: &mut Formatter<W>, site: u32, statement: &Statement) -> fmt::Result {
+    let Statement {
+        incentive,
+        charged,
+        taken,
+        net,
+        paid,
+        ..
+    } = *statement;
+    writeln!(f, "total,{site},{incentive},{charged},{taken},{net},{paid}")
+}
+
+// The rows of a site's statement: one for each of its event hours, one for each week of the season, and one for its totals.
+#[derive(Clone, Copy)]
+struct StatementRows<'a> {
+    site: u32,
+    written: Written<'a>,
+}
+
+impl Display for StatementRows<'_> {
+    fn fmt<W: Write>(&self, f: &mut Formatter<W>) -> fmt::Result {
+        let StatementRows { site, written } = *self;
+        for line in written.hour_lines() {
+            write_hour(f, site, line)?;
+        }
+        for (week, line) in written.week_lines() {
+            write_week(f, site, week, line)?;
+        }
+        write_totals(f, site, written.statement)
+    }
+}
+
+// The rows of a meter's refused readings.
+fn write_readings<W: Write>(f: &mut Formatter<W>, handed: &HandedIn<'_>) -> fmt::Result {
+    let BatchMeter::Table { file, .. } = handed.meter else {
+        return Ok(());
+    };
+    for reading in handed.refused.iter() {
+        let number = reading.refusal.number();
         writeln!(
-            out,
-            "week,{site},{week},{nomination},{hours},{counted},{days},{capacity}"
+            f,
+            "reading,{},{},refused,{number}",
+            Field(file),
+            reading.line
         )?;
     }
     Ok(())
 }
 
-fn write_total(out: &mut String, site: u32, statement: &Statement) -> Result<(), NoRoom> {
-    let incentive = statement.incentive;
-    let charged = statement.charged;
-    let taken = statement.taken;
-    let net = statement.net;
-    let paid = statement.paid;
-    writeln!(
-        out,
-        "total,{site},{incentive},{charged},{taken},{net},{paid}"
-    )?;
-    Ok(())
+// The rows of a step, which stands in a line of the batch.
+#[derive(Clone, Copy)]
+struct StepRows<'a> {
+    line: usize,
+    told: Told<'a>,
 }
 
-// The rows of the statement at a place of those written.
-fn write_statement(
-    out: &mut String,
-    settled: &Settled<'_>,
-    told: Told,
-    site: u32,
-    hours: u32,
-) -> Result<(), NoRoom> {
-    let (Some(year), Some(statement)) = (told.year, settled.done.statements.get(told.statements))
-    else {
-        return Ok(());
-    };
-    for line in statement.hours.iter().take(hours as usize) {
-        write_hour(out, site, line)?;
-    }
-    write_weeks(out, site, year, statement)?;
-    write_total(out, site, statement)
-}
-
-// The rows of one statement or of two.
-fn write_stated(
-    out: &mut String,
-    settled: &Settled<'_>,
-    told: Told,
-    task: Task,
-    answer: Result<u32, StatementRefusal>,
-) -> Result<(), NoRoom> {
-    let hours = match answer {
-        Ok(hours) => hours,
-        Err(refusal) => return write_unstated(out, refusal),
-    };
-    writeln!(out, "answer,{hours}")?;
-    match task {
-        Task::Statement { site, .. } => write_statement(out, settled, told, site, hours),
-        Task::Compare { site, .. } => {
-            write_statement(out, settled, told, site, hours)?;
-            let next = Told {
-                year: told.year,
-                statements: told.statements.saturating_add(1),
-            };
-            write_statement(out, settled, next, site, hours)
+impl Display for StepRows<'_> {
+    fn fmt<W: Write>(&self, f: &mut Formatter<W>) -> fmt::Result {
+        let line = self.line;
+        match self.told {
+            Told::Opened { answer, .. } => {
+                write!(f, "call,{line},open,")?;
+                match answer {
+                    Ok(week) => writeln!(f, "answer,{week}"),
+                    Err(refusal) => writeln!(f, "refused,{}", refusal.number()),
+                }
+            }
+            Told::Called { call, answer, .. } => {
+                write!(f, "call,{line},{},", word_of(call))?;
+                match answer {
+                    Ok(answer) => writeln!(f, "answer,{}", Numbers(answer)),
+                    Err(refusal) => writeln!(f, "refused,{}", refusal.number()),
+                }
+            }
+            Told::Metered(handed) => write_readings(f, handed),
+            Told::Stated(Stated { site, answer, .. }) => {
+                write!(f, "call,{line},statement,")?;
+                match answer {
+                    Ok(written) => {
+                        let rows = StatementRows { site, written };
+                        write!(f, "answer,{}\n{rows}", written.hours)
+                    }
+                    Err(refusal) => writeln!(f, "refused,{}", Refusal(refusal)),
+                }
+            }
+            Told::Compared(Compared { site, answer, .. }) => {
+                write!(f, "call,{line},compare,")?;
+                match answer {
+                    Ok((one, two)) => {
+                        let first = StatementRows { site, written: one };
+                        let second = StatementRows { site, written: two };
+                        write!(f, "answer,{}\n{first}{second}", one.hours)
+                    }
+                    Err(refusal) => writeln!(f, "refused,{}", Refusal(refusal)),
+                }
+            }
         }
-        _ => Ok(()),
-    }
-}
-
-// The rows of a meter's refused readings.
-fn write_readings(
-    out: &mut String,
-    heap: Global,
-    settled: &Settled<'_>,
-    task: Task,
-) -> Result<(), NoRoom> {
-    let Task::Meter { meter } = task else {
-        return Ok(());
-    };
-    let (Some(BatchMeter::Table { file, .. }), Some(refused)) = (
-        settled.meters.get(meter),
-        settled.refused.get(meter),
-    ) else {
-        return Ok(());
-    };
-    let file = field(heap, file)?;
-    for reading in refused.as_slice() {
-        let line = reading.line;
-        let number = reading.refusal.number();
-        writeln!(out, "reading,{file},{line},refused,{number}")?;
-    }
-    Ok(())
-}
-
-// The rows of a step.
-fn write_step(
-    out: &mut String,
-    heap: Global,
-    settled: &Settled<'_>,
-    told: Told,
-    step: &Step,
-    outcome: &Outcome,
-) -> Result<(), NoRoom> {
-    match *outcome {
-        Outcome::Metered => return write_readings(out, heap, settled, step.task),
-        _ => write_call(out, step)?,
-    }
-    match *outcome {
-        Outcome::Opened(Ok(week)) => {
-            writeln!(out, "answer,{week}")?;
-            Ok(())
-        }
-        Outcome::Called(Ok(answer)) => write_answer(out, answer),
-        Outcome::Opened(Err(refusal)) => write_refused(out, refusal),
-        Outcome::Called(Err(refusal)) => write_refused(out, refusal),
-        Outcome::Metered => Ok(()),
-        Outcome::Stated(answer) => write_stated(out, settled, told, step.task, answer),
-        Outcome::Compared(answer) => write_stated(out, settled, told, step.task, answer),
     }
 }
 
 // The last row, with what is read aloud.
-fn write_counts(out: &mut String, heap: Global, settled: &Settled<'_>) -> Result<(), NoRoom> {
-    let label = field(heap, settled.label)?;
-    let sites = settled.counts.sites;
-    let meter_hours = settled.counts.meter_hours;
-    let event_hours = settled.counts.event_hours;
-    let statements = settled.counts.statements;
+fn write_counts(text: &mut String, label: &str, counts: Counts) -> Result<(), AllocError> {
+    let Counts {
+        sites,
+        meter_hours,
+        event_hours,
+        statements,
+    } = counts;
+    let label = Field(label);
     writeln!(
-        out,
+        text,
         "batch,{label},{sites},{meter_hours},{event_hours},{statements}"
-    )?;
-    Ok(())
-}
-
-// What is written of the steps, one after another.
-fn write_steps(
-    out: &mut String,
-    heap: Global,
-    settled: &Settled<'_>,
-    steps: &[Step],
-) -> Result<(), NoRoom> {
-    let mut told = Told::nothing();
-    for (step, outcome) in steps.iter().zip(settled.done.outcomes.iter()) {
-        write_step(out, heap, settled, told, step, outcome)?;
-        told = told.and(step, outcome);
-    }
-    Ok(())
+    )
 }
 
 // The rows of a settled batch.
-pub fn rows(heap: Global, settled: &Settled<'_>) -> Result<String, NoRoom> {
+pub fn rows(heap: Global, settled: &Settled<'_>) -> Result<String, AllocError> {
     let mut text = String::new(heap);
-    write_steps(&mut text, heap, settled, settled.steps.as_slice())?;
-    write_counts(&mut text, heap, settled)?;
+    let mut teller = Teller::new(settled);
+    for (step, outcome) in settled.steps.iter().zip(settled.done.outcomes.iter()) {
+        if let Some(told) = teller.tell(step.task, *outcome) {
+            let line = step.line;
+            write!(text, "{}", StepRows { line, told })?;
+        }
+    }
+    write_counts(&mut text, settled.label, settled.counts)?;
     Ok(text)
 }

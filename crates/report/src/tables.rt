@@ -1,128 +1,120 @@
 // A statement as tables: its event hours, its weeks, its totals and what is paid.
-use crate::columns::{
-    HOURS_HEADING, end_line, put, put_cents, put_dollars, put_event_hour, put_kwh, put_name,
-    put_week,
-};
-use crate::figures::grouped;
-use crate::room::NoRoom;
-use calendar::last_week;
-use std::alloc::Global;
-use std::fmt::Write;
-use tariff::statement::{HourLine, Statement, WeekLine};
+use crate::columns::{EventHour, HOURS_HEADING, Week};
+use crate::figures::{Cents, Dollars, Grouped, Kwh};
+use crate::telling::Written;
+use std::fmt;
+use std::fmt::{Display, Formatter, Write};
+use tariff::statement::{HourLine, WeekLine};
 
 // The heading of a table of weeks.
 const WEEKS_HEADING: &str =
     "     week  begins         nominated kW  event hours  counted kWh programme days      capacity pay";
 
-fn write_hour_line(
-    out: &mut String,
-    heap: Global,
+// A row of the table of event hours.
+#[derive(Clone, Copy)]
+struct HourRow<'a> {
     year: u32,
-    line: &HourLine,
-) -> Result<(), NoRoom> {
-    put_event_hour(out, heap, year, line)?;
-    put_kwh(out, heap, line.base / 3)?;
-    put_kwh(out, heap, line.adjusted / 30)?;
-    put_kwh(out, heap, line.reduction)?;
-    put_kwh(out, heap, line.shortfall)?;
-    put_dollars(out, heap, 15, line.energy)?;
-    put_dollars(out, heap, 15, line.adjustment)?;
-    end_line(out)
+    line: &'a HourLine,
 }
 
-// The event hours of a statement.
-fn write_hours(
-    out: &mut String,
-    heap: Global,
-    year: u32,
-    statement: &Statement,
-    hours: u32,
-) -> Result<(), NoRoom> {
-    if hours == 0 {
-        writeln!(out, "    No event stood, so there are no event hours.")?;
-        return Ok(());
+impl Display for HourRow<'_> {
+    fn fmt<W: Write>(&self, f: &mut Formatter<W>) -> fmt::Result {
+        let line = *self.line;
+        let hour = EventHour::of(self.year, self.line);
+        let baseline = Kwh(line.base / 3);
+        let adjusted = Kwh(line.adjusted / 30);
+        let shed = Kwh(line.reduction);
+        let short = Kwh(line.shortfall);
+        let energy = Dollars(line.energy);
+        let adjustment = Dollars(line.adjustment);
+        write!(
+            f,
+            "{hour} {baseline:>12} {adjusted:>12} {shed:>12} {short:>12}"
+        )?;
+        write!(f, " {energy:>15} {adjustment:>15}")
     }
-    writeln!(out, "{HOURS_HEADING}")?;
-    for line in statement.hours.iter().take(hours as usize) {
-        write_hour_line(out, heap, year, line)?;
+}
+
+// A row of the table of weeks.
+#[derive(Clone, Copy)]
+struct WeekRow<'a> {
+    week: Week,
+    line: &'a WeekLine,
+}
+
+impl Display for WeekRow<'_> {
+    fn fmt<W: Write>(&self, f: &mut Formatter<W>) -> fmt::Result {
+        let WeekLine {
+            nomination,
+            hours,
+            counted,
+            days,
+            capacity,
+        } = *self.line;
+        let week = self.week;
+        let nominated = Grouped(u64::from(nomination));
+        let counted = Kwh(counted);
+        let capacity = Dollars(capacity);
+        write!(
+            f,
+            "{week} {nominated:>12} {hours:>12} {counted:>12} {days:>14} {capacity:>17}"
+        )
     }
-    Ok(())
 }
 
-fn put_nomination(out: &mut String, heap: Global, kw: u32) -> Result<(), NoRoom> {
-    let text = grouped(heap, u64::from(kw))?;
-    put(out, 12, text.as_str())
-}
+// The tables of a statement: its event hours, its weeks, its totals and what is paid, each line with its end.
+#[derive(Clone, Copy)]
+pub(crate) struct Tables<'a>(pub Written<'a>);
 
-fn write_week_line(
-    out: &mut String,
-    heap: Global,
-    year: u32,
-    week: u32,
-    line: &WeekLine,
-) -> Result<(), NoRoom> {
-    let hours = line.hours;
-    let days = line.days;
-    put_week(out, heap, year, week)?;
-    put_nomination(out, heap, line.nomination)?;
-    write!(out, " {hours:>12}")?;
-    put_kwh(out, heap, line.counted)?;
-    write!(out, " {days:>14}")?;
-    put_dollars(out, heap, 17, line.capacity)?;
-    end_line(out)
-}
-
-// The weeks of a statement.
-fn write_weeks(
-    out: &mut String,
-    heap: Global,
-    year: u32,
-    statement: &Statement,
-) -> Result<(), NoRoom> {
-    writeln!(out, "{WEEKS_HEADING}")?;
-    for place in 0..last_week(year) {
-        write_week_line(out, heap, year, place + 1, &statement.weeks[place as usize])?;
+impl Tables<'_> {
+    fn write_hours<W: Write>(self, f: &mut Formatter<W>) -> fmt::Result {
+        let Tables(written) = self;
+        if written.hours == 0 {
+            return writeln!(f, "    No event stood, so there are no event hours.");
+        }
+        let year = written.year;
+        writeln!(f, "{HOURS_HEADING}")?;
+        for line in written.hour_lines() {
+            writeln!(f, "{}", HourRow { year, line })?;
+        }
+        Ok(())
     }
-    Ok(())
+
+    fn write_weeks<W: Write>(self, f: &mut Formatter<W>) -> fmt::Result {
+        let Tables(written) = self;
+        let year = written.year;
+        writeln!(f, "{WEEKS_HEADING}")?;
+        for (number, line) in written.week_lines() {
+            let week = Week { year, number };
+            writeln!(f, "{}", WeekRow { week, line })?;
+        }
+        Ok(())
+    }
+
+    fn write_totals<W: Write>(self, f: &mut Formatter<W>) -> fmt::Result {
+        let Tables(Written { statement, .. }) = self;
+        for (name, millicents) in [
+            ("all capacity and energy pay", statement.incentive),
+            ("all adjustments", statement.charged),
+            (
+                "adjustments taken off, at most all the pay",
+                statement.taken,
+            ),
+            ("net", statement.net),
+        ] {
+            writeln!(f, "    {name:<44} {:>19}", Dollars(millicents))?;
+        }
+        let name = "paid, in whole cents";
+        writeln!(f, "    {name:<44} {:>16}", Cents(statement.paid))
+    }
 }
 
-fn write_total(out: &mut String, heap: Global, name: &str, millicents: u64) -> Result<(), NoRoom> {
-    put_name(out, name)?;
-    put_dollars(out, heap, 19, millicents)?;
-    end_line(out)
-}
-
-fn write_totals(out: &mut String, heap: Global, statement: &Statement) -> Result<(), NoRoom> {
-    write_total(
-        out,
-        heap,
-        "all capacity and energy pay",
-        statement.incentive,
-    )?;
-    write_total(out, heap, "all adjustments", statement.charged)?;
-    write_total(
-        out,
-        heap,
-        "adjustments taken off, at most all the pay",
-        statement.taken,
-    )?;
-    write_total(out, heap, "net", statement.net)?;
-    put_name(out, "paid, in whole cents")?;
-    put_cents(out, heap, 16, statement.paid)?;
-    end_line(out)
-}
-
-// A statement with some event hours: the tables of its hours and of its weeks, its totals and what is paid.
-pub(crate) fn write_statement(
-    out: &mut String,
-    heap: Global,
-    year: u32,
-    statement: &Statement,
-    hours: u32,
-) -> Result<(), NoRoom> {
-    write_hours(out, heap, year, statement, hours)?;
-    end_line(out)?;
-    write_weeks(out, heap, year, statement)?;
-    end_line(out)?;
-    write_totals(out, heap, statement)
+impl Display for Tables<'_> {
+    fn fmt<W: Write>(&self, f: &mut Formatter<W>) -> fmt::Result {
+        self.write_hours(f)?;
+        writeln!(f, "")?;
+        self.write_weeks(f)?;
+        writeln!(f, "")?;
+        self.write_totals(f)
+    }
 }

@@ -12,18 +12,14 @@ const UNREADABLE: [&str; 2] = ["unreadable.batch", "unreadable-readings.batch"];
 // What is said of a batch that is not settled; where it is, its text.
 fn said_of(rt: &HostRuntime, batch: &'static str) -> Result<String, Stopped> {
     match text_for(rt, &[batch]) {
-        Ok(text) => Ok(text),
-        Err(Failure::Said(message)) => Ok(message),
+        Ok(said) | Err(Failure::Said(said)) => Ok(said),
         Err(Failure::NoMemory) => Err(Stopped),
     }
 }
 
 fn show_fault(rt: &HostRuntime, batch: &'static str) -> Result<(), Stopped> {
-    let message = said_of(rt, batch)?;
-    match println!(rt; "Not settled: {message}") {
-        Ok(()) => Ok(()),
-        Err(_) => Err(Stopped),
-    }
+    let said = said_of(rt, batch)?;
+    println!(rt; "Not settled: {said}").map_err(|_| Stopped)
 }
 
 fn show_all(rt: &HostRuntime) -> Result<(), Stopped> {
