@@ -110,19 +110,13 @@ impl Differences<'_> {
             let changed = difference(Dollars, first, second);
             let first = Dollars(first);
             let second = Dollars(second);
-            writeln!(
-                f,
-                "    {name:<44} {first:>19} {second:>19} {changed:>19}"
-            )?;
+            writeln!(f, "    {name:<44} {first:>19} {second:>19} {changed:>19}")?;
         }
         let name = "paid, in whole cents";
         let changed = difference(Cents, one.paid, two.paid);
         let first = Cents(one.paid);
         let second = Cents(two.paid);
-        writeln!(
-            f,
-            "    {name:<44} {first:>16} {second:>19} {changed:>19}"
-        )
+        writeln!(f, "    {name:<44} {first:>16} {second:>19} {changed:>19}")
     }
 }
 
