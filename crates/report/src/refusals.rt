@@ -6,7 +6,7 @@ use std::fmt::{Display, Formatter, Write};
 use tariff::call::SeasonRefusal;
 use tariff::fault::BaselineFault;
 use tariff::reading::Gap;
-use tariff::statement::StatementRefusal;
+use tariff::statement::{EventFault, StatementRefusal};
 
 // A refusal: its number, and what it means.
 #[derive(Clone, Copy)]
@@ -73,7 +73,7 @@ impl From<StatementRefusal> for Refused {
         let meaning = match refusal {
             StatementRefusal::SeasonNotClosed => "the season is not closed",
             StatementRefusal::NoSuchSite => "no site has this number",
-            StatementRefusal::EventWithoutBaseline { fault, .. } => missing_load(fault),
+            StatementRefusal::EventWithoutBaseline(EventFault { fault, .. }) => missing_load(fault),
         };
         Refused {
             number: refusal.number(),
@@ -84,8 +84,8 @@ impl From<StatementRefusal> for Refused {
 
 // Why an event has no baseline.
 fn missing_load(fault: BaselineFault) -> &'static str {
-    let BaselineFault::HourWithoutLoad { gap, .. } = fault;
-    match gap {
+    let BaselineFault::HourWithoutLoad(hour) = fault;
+    match hour.gap {
         Gap::Missing(_) => "an hour that is needed has no reading",
         Gap::Over => "in an hour that is needed two meters together are above 100,000 kWh",
     }
