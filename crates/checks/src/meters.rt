@@ -2,8 +2,8 @@
 use crate::summers::hourly;
 use meter::meter::Meter;
 use meter::pair::PairMeter;
-use meter::table::QuarterMeter;
 use meter::refusal::MeterFault;
+use meter::table::QuarterMeter;
 use tariff::reading::Gap;
 
 fn missing(number: u32) -> Result<u32, MeterFault> {

@@ -78,15 +78,18 @@ impl Unstated<'_> {
 impl Display for Unstated<'_> {
     fn fmt<W: Write>(&self, f: &mut Formatter<W>) -> fmt::Result {
         writeln!(f, "{INDENT}{}", Refused::from(self.refusal))?;
-        let StatementRefusal::EventWithoutBaseline(EventFault { event, fault }) = self.refusal else {
+        let StatementRefusal::EventWithoutBaseline(EventFault { event, fault }) = self.refusal
+        else {
             return Ok(());
         };
-        let BaselineFault::HourWithoutLoad(HourGap {
-            gap,
-            purpose,
-            day,
-            hour,
-        }) = fault;
+        let BaselineFault::HourWithoutLoad(
+            HourGap {
+                gap,
+                purpose,
+                day,
+                hour,
+            },
+        ) = fault;
         let date = Date {
             year: self.year,
             day: u32::from(day),

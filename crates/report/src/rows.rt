@@ -65,12 +65,14 @@ impl Display for Refusal {
         let StatementRefusal::EventWithoutBaseline(EventFault { event, fault }) = refusal else {
             return Ok(());
         };
-        let BaselineFault::HourWithoutLoad(HourGap {
-            gap,
-            purpose,
-            day,
-            hour,
-        }) = fault;
+        let BaselineFault::HourWithoutLoad(
+            HourGap {
+                gap,
+                purpose,
+                day,
+                hour,
+            },
+        ) = fault;
         write!(f, ",{event},{},{day},{hour}", purpose.number())?;
         match gap {
             Gap::Missing(meter) => write!(f, ",{meter}"),

@@ -5,9 +5,9 @@ ghost use Rattle.settlement.specs.Choosing.{ChosenFor, table_at, table_of, toget
 use crate::chosen::ChosenMeter;
 use crate::fault::RunFault;
 use crate::results::ReadMeter;
-use meter::table::{HourlyMeter, QuarterMeter};
 use meter::kind::TableKind;
 use meter::pair::PairMeter;
+use meter::table::{HourlyMeter, QuarterMeter};
 use std::alloc::{AllocError, Global};
 
 // A meter over a table of a kind.

@@ -1,9 +1,9 @@
 ghost use Rattle.settlement.specs.Chosen.{chosen_table};
 
 use meter::hour::SummerHour;
-use meter::table::{HourlyMeter, QuarterMeter};
 use meter::meter::Meter;
 use meter::pair::PairMeter;
+use meter::table::{HourlyMeter, QuarterMeter};
 use tariff::reading::Gap;
 
 // A meter that is chosen while the program runs: one over a table with a cell to an hour, one over a table with a cell to a

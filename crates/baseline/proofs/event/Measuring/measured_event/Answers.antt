@@ -1,4 +1,4 @@
-use Rattle.std.proofs.Common.{◌≡◌, ℕ, ◌<◌, get_or, arith, rules}
+use Rattle.std.proofs.Common.{◌≡◌, ℕ, ◌<◌, get_or, rules}
 use Rattle.baseline.specs.Measuring.{no_measured, entry_from}
 use Rattle.baseline.proofs.Measures.{event_told}
 use Rattle.baseline.proofs.event.Measuring.measured_event.Goals as goal
