@@ -13,6 +13,7 @@ pub(crate) struct Wrong {
 }
 
 // What is wrong with a line that is no entry.
+// One text a variant: a type with `Display` around the fault would say no more.
 fn no_entry(fault: EntryFault) -> &'static str {
     match fault {
         EntryFault::UnknownWord => "a word that no entry has",
@@ -27,7 +28,7 @@ fn no_entry(fault: EntryFault) -> &'static str {
     }
 }
 
-// What a stamp that stands between two cells of a table does not do.
+// What a stamp that stands between two cells of a table does not do. One text a variant, as above.
 fn between_cells(kind: TableKind) -> &'static str {
     match kind {
         TableKind::Hourly => "a stamp that starts no hour",

@@ -97,11 +97,10 @@ impl Display for Asked {
                     self.at(moment)
                 )
             }
-            Call::Revoke { moment } => write!(
-                f,
-                "revoke the event of the day, {}",
-                self.at(moment)
-            ),
+            Call::Revoke { moment } => {
+                let when = self.at(moment);
+                write!(f, "revoke the event of the day, {when}")
+            }
             Call::Close => write!(f, "close the season"),
         }
     }

@@ -25,6 +25,7 @@ fourth event on, and adjustments are charged for what was short. Baselines are r
 ";
 
 // How often a table has readings.
+// One word a variant: a type with `Display` around the kind would say no more.
 fn readings_of(kind: TableKind) -> &'static str {
     match kind {
         TableKind::Hourly => "hourly",

@@ -28,6 +28,7 @@ impl Display for Field<'_> {
 }
 
 // The word with which a line of the batch asks for a call.
+// One word a variant: a type with `Display` around the call would say no more.
 fn word_of(call: Call) -> &'static str {
     match call {
         Call::Enrol { .. } => "enrol",
@@ -168,6 +169,24 @@ fn write_readings<W: Write>(f: &mut Formatter<W>, handed: &HandedIn<'_>) -> fmt:
     Ok(())
 }
 
+// The rows of two statements that were asked for together.
+fn write_compared<W: Write>(
+    f: &mut Formatter<W>,
+    line: usize,
+    compared: Compared<'_>,
+) -> fmt::Result {
+    let Compared { site, answer, .. } = compared;
+    write!(f, "call,{line},compare,")?;
+    match answer {
+        Ok((one, two)) => {
+            let first = StatementRows { site, written: one };
+            let second = StatementRows { site, written: two };
+            write!(f, "answer,{}\n{first}{second}", one.hours)
+        }
+        Err(refusal) => writeln!(f, "refused,{}", Refusal(refusal)),
+    }
+}
+
 // The rows of a step, which stands in a line of the batch.
 #[derive(Clone, Copy)]
 struct StepRows<'a> {
@@ -204,17 +223,7 @@ impl Display for StepRows<'_> {
                     Err(refusal) => writeln!(f, "refused,{}", Refusal(refusal)),
                 }
             }
-            Told::Compared(Compared { site, answer, .. }) => {
-                write!(f, "call,{line},compare,")?;
-                match answer {
-                    Ok((one, two)) => {
-                        let first = StatementRows { site, written: one };
-                        let second = StatementRows { site, written: two };
-                        write!(f, "answer,{}\n{first}{second}", one.hours)
-                    }
-                    Err(refusal) => writeln!(f, "refused,{}", Refusal(refusal)),
-                }
-            }
+            Told::Compared(compared) => write_compared(f, line, compared),
         }
     }
 }
