@@ -4,7 +4,7 @@ ghost use Rattle.meter.specs.Meaning.{asked, Spans};
 
 use crate::hour::SummerHour;
 use crate::refusal::MeterFault;
-use tariff::reading::Gap;
+use tariff::reading::Reading;
 
 // A meter answers what a site drew in an hour of the summer, in watt-hours, or why it has no load to give.
 // Its meaning is its table: a reading for each hour of the summer, and the same one value everywhere else, so that two
@@ -13,7 +13,7 @@ pub trait Meter {
     ghost table: { Self → Table };
 
     // What the table holds in an hour of the summer. The question changes no hour of the table.
-    fn load(&mut self, at: SummerHour) -> Result<u32, Gap>
+    fn load(&mut self, at: SummerHour) -> Reading
         ensures answers { result ≡ table self.old at.day at.hour }
         ensures bound { IfOk result (λ w. w ≤ 100000000) }
         ensures keeps { table self.new ≡ table self.old }

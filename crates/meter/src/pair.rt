@@ -3,7 +3,7 @@ ghost use Rattle.meter.specs.Cells.{joined};
 
 use crate::hour::SummerHour;
 use crate::meter::Meter;
-use tariff::reading::Gap;
+use tariff::reading::{Gap, Reading};
 
 // Two meters on one site, as one: what both drew together.
 #[derive(Drop)]
@@ -15,7 +15,7 @@ pub struct PairMeter<A, B> {
 impl<A: Meter, B: Meter> Meter for PairMeter<A, B> {
     ghost table = { λ p. summer (λ d h. joined (A.Meter.table p.first d h) (B.Meter.table p.second d h)) };
 
-    fn load(&mut self, at: SummerHour) -> Result<u32, Gap> {
+    fn load(&mut self, at: SummerHour) -> Reading {
         let a = self.first.load(at)?;
         let b = self.second.load(at)?;
         if a + b > 100_000_000 {

@@ -5,7 +5,7 @@ ghost use Rattle.meter.specs.Cells.{tabled};
 use crate::cells::hour_at;
 use crate::hour::SummerHour;
 use crate::meter::Meter;
-use tariff::reading::Gap;
+use tariff::reading::{Gap, Reading};
 
 // A meter over a caller's table with N cells to an hour, and the number under which an hour without a load is missing.
 #[derive(Drop)]
@@ -25,7 +25,7 @@ pub type QuarterMeter<'a> = TableMeter<'a, 4>;
 impl<const N: usize> Meter for TableMeter<'_, N> {
     ghost table = { λ m. summer (tabled N m.cells.now m.number) };
 
-    fn load(&mut self, at: SummerHour) -> Result<u32, Gap> {
+    fn load(&mut self, at: SummerHour) -> Reading {
         let first = N * (24 * usize::from(at.day) + usize::from(at.hour));
         hour_at::<N>(self.cells, first).ok_or(Gap::Missing(self.number))
     }

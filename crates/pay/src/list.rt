@@ -3,7 +3,7 @@ ghost use Rattle.std.specs.Prelude.{◌≤◌};
 use crate::placed::PlacedHour;
 
 // The measured hours of a season, at most 60.
-// A fixed array with its count, and no `Vec`: no statement is refused for want of memory.
+// A fixed array with its count, since no statement is refused for want of memory; an `ArrayVec` needs none, but is no `Copy`, as this is.
 #[derive(Clone, Copy)]
 pub struct HourList {
     pub(crate) hours: [PlacedHour; 60],

@@ -37,7 +37,7 @@ pub(crate) fn counted(hour: &PlacedHour, nominated: u32) -> u64
 }
 
 // The line of an hour.
-// Field by field: a line and a measured hour share seven fields, and no struct of them.
+// Field by field: a line has the hour's seven fields of its own, and not the hour as one field.
 pub fn priced(hour: &PlacedHour) -> HourLine
     ensures { result ≡ priced hour.now.measured }
 {

@@ -1,7 +1,7 @@
 ghost use Rattle.std.specs.Prelude.{◌≤◌};
 
 // The weeks of a season: the programme days of each, week 1 first, and the number of the last week.
-// A fixed array, and no `Vec`: no statement is refused for want of memory.
+// All ten are used: `last` is a week's number, and no length.
 #[derive(Clone, Copy)]
 pub struct Weeks {
     pub days: [u8; 10],

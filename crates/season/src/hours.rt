@@ -7,7 +7,7 @@ ghost use Rattle.season.specs.Rest.{RestZero};
 use tariff::season::{Day, Event, EventHour};
 
 // Up to 60 hours, of which the first `count` are used; the other entries are zero.
-// A fixed array, since reading a season is never refused for want of memory.
+// A fixed array with its count, since reading a season is never refused for want of memory; an `ArrayVec` needs none, but is no `Copy`.
 #[derive(Clone, Copy)]
 pub struct EventHours {
     pub hours: [EventHour; 60],

@@ -34,7 +34,7 @@ fn take_figure(site: &mut Site, week: u32, kw: u32)
 }
 
 // Room for 64 sites, of which the first `count` are enrolled; the other cells are blank.
-// A fixed array, since no call of a season is refused for want of memory.
+// A fixed array with its count, since no call is refused for want of memory; an `ArrayVec` needs none, but is no `Copy`, as a season is.
 #[derive(Clone, Copy, PartialEq, Eq)]
 pub struct SiteTable {
     pub count: u8,

@@ -4,7 +4,7 @@ use meter::hour::SummerHour;
 use meter::meter::Meter;
 use meter::pair::PairMeter;
 use meter::table::{HourlyMeter, QuarterMeter};
-use tariff::reading::Gap;
+use tariff::reading::{Gap, Reading};
 
 // A meter that is chosen while the program runs: one over a table with a cell to an hour, one over a table with a cell to a
 // quarter-hour, or two such meters on one site.
@@ -18,7 +18,7 @@ pub enum ChosenMeter<'a> {
 impl Meter for ChosenMeter<'_> {
     ghost table = { chosen_table };
 
-    fn load(&mut self, at: SummerHour) -> Result<u32, Gap> {
+    fn load(&mut self, at: SummerHour) -> Reading {
         match self {
             ChosenMeter::Hourly(table) => table.load(at),
             ChosenMeter::Quarter(table) => table.load(at),

@@ -7,6 +7,7 @@ ghost use Rattle.tariff.specs.Refusals.{season_refusal_number};
 pub enum Call {
     Enrol {
         moment: u32,
+        // a number and no `Kind`: a caller may give any, and the season refuses those of no kind
         kind: u32,
         kw: u32,
     },

@@ -34,6 +34,7 @@ pub struct HourGap {
 }
 
 // What keeps a baseline from being worked out: an hour that is needed and has no load.
+// An enum of one variant, and not the record itself: that an hour's gap keeps a baseline from being worked out is said by the name.
 #[derive(Clone, Copy, PartialEq, Eq, Debug)]
 pub enum BaselineFault {
     HourWithoutLoad(HourGap),
