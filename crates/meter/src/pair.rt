@@ -1,3 +1,4 @@
+ghost use Rattle.std.specs.Prelude.{◌≡◌, ◌≤◌, IfOk, Ok};
 ghost use Rattle.tariff.specs.Tables.{summer};
 ghost use Rattle.meter.specs.Cells.{joined};
 
@@ -12,15 +13,24 @@ pub struct PairMeter<A, B> {
     pub second: B,
 }
 
+// Two loads of one hour together: over where they come to more than an hour may hold.
+pub fn together(first: u32, second: u32) -> Reading
+    ensures is { result ≡ joined (Ok first) (Ok second) }
+    ensures bound { IfOk result (λ w. w ≤ 100000000) }
+{
+    let sum = first.saturating_add(second);
+    if sum > 100_000_000 {
+        return Err(Gap::Over);
+    }
+    Ok(sum)
+}
+
 impl<A: Meter, B: Meter> Meter for PairMeter<A, B> {
     ghost table = { λ p. summer (λ d h. joined (A.Meter.table p.first d h) (B.Meter.table p.second d h)) };
 
     fn load(&mut self, at: SummerHour) -> Reading {
         let a = self.first.load(at)?;
         let b = self.second.load(at)?;
-        if a + b > 100_000_000 {
-            return Err(Gap::Over);
-        }
-        Ok(a + b)
+        together(a, b)
     }
 }

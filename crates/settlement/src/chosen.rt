@@ -2,9 +2,9 @@ ghost use Rattle.settlement.specs.Chosen.{chosen_table};
 
 use meter::hour::SummerHour;
 use meter::meter::Meter;
-use meter::pair::PairMeter;
+use meter::pair::{PairMeter, together};
 use meter::table::{HourlyMeter, QuarterMeter};
-use tariff::reading::{Gap, Reading};
+use tariff::reading::Reading;
 
 // A meter that is chosen while the program runs: one over a table with a cell to an hour, one over a table with a cell to a
 // quarter-hour, or two such meters on one site.
@@ -23,13 +23,10 @@ impl Meter for ChosenMeter<'_> {
             ChosenMeter::Hourly(table) => table.load(at),
             ChosenMeter::Quarter(table) => table.load(at),
             ChosenMeter::Pair(pair) => {
-                // Not the pair's own `load`: it leads back to `ask`, which the trait writes, and that this ends was not shown.
+                // Not the pair's own `load`: it leads back to `ask`, which the trait writes, and that this ends was tried and not shown.
                 let a = pair.first.load(at)?;
                 let b = pair.second.load(at)?;
-                if a + b > 100_000_000 {
-                    return Err(Gap::Over);
-                }
-                Ok(a + b)
+                together(a, b)
             }
         }
     }
