@@ -45,13 +45,10 @@ pub fn next_word(line: &str) -> Option<Parts<'_>>
 fn unblank_end(line: &str) -> &str
     ensures { result.now ≡ reverse (unblanked (reverse line.now)) }
 {
-    // Kept as a `while`: with `rposition` it stays open which byte is the last that is no blank, since no list word states what it gives.
-    let bytes = line.as_bytes();
-    let mut end = bytes.len();
-    while end > 0 && is_mark(Mark::Blank, bytes[end - 1]) {
-        end -= 1;
+    match line.bytes().rposition(|byte| !is_mark(Mark::Blank, byte)) {
+        Some(last) => line.split_at(last + 1).0,
+        None => "",
     }
-    line.split_at(end).0
 }
 
 // The line without the blanks at both its ends.
