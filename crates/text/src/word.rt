@@ -1,7 +1,7 @@
 ghost use Rattle.std.specs.Prelude.{◌≡◌, ◌<◌, ◌^◌, not, length, reverse};
 ghost use Rattle.std.specs.List.{position};
 ghost use Rattle.std.specs.Option.{option_map};
-ghost use Rattle.text.specs.Pieces.{blank, unblanked, trimmed, first_word, next_word, between_blanks};
+ghost use Rattle.text.specs.Pieces.{blank, unblanked, trimmed, next_word, between_blanks};
 ghost use Rattle.text.specs.Stops.{parts_of};
 
 use crate::cut::{cut, is_mark};
@@ -24,21 +24,12 @@ fn unblank(line: &str) -> &str
     }
 }
 
-// The word with which the line begins, and what follows the blank that ends it; `None` where the line has no byte.
-fn first_word(line: &str) -> Option<Parts<'_>>
-    ensures { option_map parts_of result ≡ first_word line.now }
-{
-    if line.is_empty() {
-        return None;
-    }
-    Some(cut(line, Mark::Blank))
-}
-
 // The first word of the line after any blanks, and what follows the blank that ends it; `None` where the line has no word.
 pub fn next_word(line: &str) -> Option<Parts<'_>>
     ensures { option_map parts_of result ≡ next_word line.now }
 {
-    first_word(unblank(line))
+    let words = unblank(line);
+    (!words.is_empty()).then(|| cut(words, Mark::Blank))
 }
 
 // The line up to its last byte that is no blank.
