@@ -1,5 +1,5 @@
 -- What is written as words and numerals is cut and read back. Assumes nothing.
-use Rattle.std.proofs.Common.{◌≡◌, ℕ, ◌^◌, ◌<◌, ◌≤◌, Bool, true, false, cond, List, [], ◌∷◌, ◌++◌, length, Some, Ok, decimal, sym, refl, ap, ◌∙◌, append-nil, arith}
+use Rattle.std.proofs.Common.{◌≡◌, ℕ, ◌<◌, ◌≤◌, Bool, true, false, cond, List, [], ◌∷◌, ◌++◌, length, Some, Ok, decimal, sym, refl, ap, ◌∙◌, append-nil, arith}
 use Rattle.std.proofs.lemmas.Fmt.{digits_decimal, digits_value-decimal, decimal_nonempty}
 use Rattle.std.proofs.lemmas.Bool.{and_parts, le-leb, ne_eqb}
 use Rattle.std.proofs.lemmas.Bool.Decides.{nat_tests}
@@ -69,19 +69,15 @@ pub free_digits : (p : ℕ → Bool) → Spares p → (ds : List ℕ) → all_as
 free_digits p s [] e = tt
 free_digits p s (d ∷ ds) e = let both = and_parts (is_ascii_digit d) (all_ascii_digits ds) e in (s d both.0, free_digits p s ds both.1)
 
--- a number of 32 bits is one of 64
-small : (n : ℕ) → n ≤ 4294967295 → n < 2 ^ 64
-small n h = omega arith
-
 module _ (n : ℕ) (h : n ≤ 4294967295) where
   pub digits_numeral : all_ascii_digits (decimal n) ≡ true
-  digits_numeral = digits_decimal numerals n (small n h)
+  digits_numeral = digits_decimal numerals n (omega arith)
 
   pub numeral_some : 0 < length (decimal n)
-  numeral_some = decimal_nonempty n (small n h)
+  numeral_some = decimal_nonempty n (omega arith)
 
   pub numeral_value : number_from 0 (decimal n) ≡ n
-  numeral_value = digits_value-decimal numerals n (small n h)
+  numeral_value = digits_value-decimal numerals n (omega arith)
 
   pub free_numeral : (p : ℕ → Bool) → Spares p → Free p (decimal n)
   free_numeral p s = free_digits p s (decimal n) digits_numeral

@@ -61,21 +61,25 @@ pub fn stamp(word: &str) -> Option<u32>
 }
 
 // A stamp names no moment after August 15, 23:59, which is 109,439.
+#[tactic(auto, using(crate::proofs::Stamps::stamps_lie_in_the_summer_lem))]
 pub fn stamps_lie_in_the_summer()
     ensures { StampsLieInTheSummer }
 {}
 
 // Every moment of the summer, written as a stamp and read, is that moment again.
+#[tactic(auto, using(crate::proofs::Stamps::written_stamps_read_back_lem))]
 pub fn written_stamps_read_back()
     ensures { WrittenStampsReadBack }
 {}
 
 // No two words name one moment: a word that does is the moment written as a stamp.
+#[tactic(auto, using(crate::proofs::Stamps::a_moment_has_one_stamp_lem))]
 pub fn a_moment_has_one_stamp()
     ensures { AMomentHasOneStamp }
 {}
 
 // Stamps worked out by hand: the first, the last, first days of months, and words that are no stamps.
+#[tactic(auto, using(crate::proofs::Stamps::stamps_worked_out_lem))]
 pub fn stamps_worked_out()
     ensures { StampsWorkedOut }
 {}

@@ -15,6 +15,7 @@ fn first_solid(line: &str) -> Option<usize>
 }
 
 // The line from its first byte on that is no blank.
+#[tactic(auto, using(crate::proofs::Blanks::word_boundary, crate::proofs::Blanks::word_begins, crate::proofs::Blanks::all_blank))]
 fn unblank(line: &str) -> &str
     ensures { result.now ≡ unblanked line.now }
 {
@@ -77,6 +78,7 @@ impl<'a> Iterator for Words<'a> {
 
     ghost remaining = { item_count words_left };
 
+    #[tactic(auto, using(crate::proofs::Words::no_words, crate::proofs::Words::first_of_words, crate::proofs::Words::fewer_words))]
     fn next(&mut self) -> Option<&'a str> {
         let word = next_word(self.rest)?;
         self.rest = word.rest;
