@@ -18,7 +18,8 @@ use Rattle.entries.specs.declared.word.Keyword.TheVariants as first
 use Rattle.entries.specs.declared.word.MeterForm.TheVariants.{Table, Pair}
 use Rattle.entries.specs.Asked.{Asked, asks_label, asks_open, asks_call, asks_table, asks_pair, asks_statement, asks_compare}
 use Rattle.entries.specs.Reading.{label_saying, label_after, open_after, enrol_after, nominate_after, announce_after, revoke_after, close_after, table_after, pair_after, meter_after, statement_after, compare_after, entry_after, entry_from, entry_of_line}
-use Rattle.entries.specs.Taking.{then, take_word, take_figure, no_more, last_word, last_figure}
+use Rattle.text.specs.Going.{then}
+use Rattle.entries.specs.Taking.{take_word, take_figure, no_more, last_word, last_figure}
 use Rattle.entries.specs.Words.{figure_from, figure_of, keyword_of, meter_form_of}
 use Rattle.entries.specs.Written.{spaced, call_words, kind_word, entry_words, entry_text, Without, Number32, ProperWord, ProperText, ProperCall, Proper, WrittenEntriesReadBack, WrittenEntriesAreOneLine}
 

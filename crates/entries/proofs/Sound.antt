@@ -23,7 +23,8 @@ use Rattle.entries.specs.declared.word.MeterForm.{MeterForm}
 use Rattle.entries.specs.declared.word.MeterForm.TheVariants.{Table, Pair}
 use Rattle.entries.specs.Asked.{Asked}
 use Rattle.entries.specs.Reading.{label_saying, label_after, open_after, enrol_after, nominate_after, announce_after, revoke_after, close_after, table_after, pair_after, meter_after, form_after, statement_after, compare_after, entry_after, entry_from, entry_of_line}
-use Rattle.entries.specs.Taking.{then, take_word, take_figure, no_more, last_word, last_figure}
+use Rattle.text.specs.Going.{then}
+use Rattle.entries.specs.Taking.{take_word, take_figure, no_more, last_word, last_figure}
 use Rattle.entries.specs.Words.{meaning, kinds, kind_named, other_figure, figure_from, figure_of, keyword_of, meter_form_of}
 use Rattle.entries.specs.Written.{Without, Number32, ProperWord, Proper, EntriesReadAreProper}
 use Rattle.entries.proofs.Back.{Fit}
