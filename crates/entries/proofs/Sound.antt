@@ -23,17 +23,13 @@ use Rattle.entries.specs.declared.word.MeterForm.{MeterForm}
 use Rattle.entries.specs.declared.word.MeterForm.TheVariants.{Table, Pair}
 use Rattle.entries.specs.Asked.{Asked}
 use Rattle.entries.specs.Reading.{label_saying, label_after, open_after, enrol_after, nominate_after, announce_after, revoke_after, close_after, table_after, pair_after, meter_after, form_after, statement_after, compare_after, entry_after, entry_from, entry_of_line}
-use Rattle.text.specs.Going.{then}
+use Rattle.text.proofs.Going.{made_then}
 use Rattle.entries.specs.Taking.{take_word, take_figure, no_more, last_word, last_figure}
 use Rattle.entries.specs.Words.{meaning, kinds, kind_named, other_figure, figure_from, figure_of, keyword_of, meter_form_of}
 use Rattle.entries.specs.Written.{Without, Number32, ProperWord, Proper, EntriesReadAreProper}
 use Rattle.entries.proofs.Back.{Fit}
 
 -- what holds of a part that is read, and then of what is made of it
-made_then : {X Y : Type 0} (P : X → Type 0) (Q : Y → Type 0) (r : Result X EntryFault) (go : X → Result Y EntryFault) → IfOk r P → ((x : X) → P x → IfOk (go x) Q) → IfOk (then r go) Q
-made_then P Q (Ok x) go h k = k x h
-made_then P Q (Err e) go h k = tt
-
 -- what holds of anything at all
 anything : {X : Type 0} (r : Result X EntryFault) → IfOk r (λ _. Unit {0})
 anything (Ok x) = tt
