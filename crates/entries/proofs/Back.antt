@@ -1,6 +1,6 @@
 -- Written entries read back. Assumes nothing.
 use Rattle.std.proofs.Common.{◌≡◌, ℕ, ◌<◌, Bool, true, false, not, ◌&&◌, List, [], ◌∷◌, length, Some, Ok, Result, codes, decimal, sym, refl, ap, ◌∙◌, arith, lit<}
-use Rattle.std.proofs.lemmas.Bool.{and_parts}
+use Rattle.std.proofs.lemmas.Bool.{and_parts, not-true}
 use Rattle.std.specs.List.{AllByRecursion}
 use Rattle.std.specs.Option.{ok_or}
 use Rattle.meter.specs.declared.kind.TableKind.{TableKind}
@@ -32,13 +32,9 @@ abbrev none : (ℕ → Bool) → List ℕ → Bool
 none p [] = true
 none p (b ∷ bs) = not (p b) && none p bs
 
-none_says : (b : Bool) → not b ≡ true → b ≡ false
-none_says false e = refl
-none_says true e = sym e
-
 without_by : (p : ℕ → Bool) (bs : List ℕ) → none p bs ≡ true → Without p bs
 without_by p [] e = tt
-without_by p (b ∷ bs) e = let both = and_parts (not (p b)) (none p bs) e in (none_says (p b) both.0, without_by p bs both.1)
+without_by p (b ∷ bs) e = let both = and_parts (not (p b)) (none p bs) e in (not-true (p b) both.0, without_by p bs both.1)
 
 -- a word that is written out
 plain : (w : List ℕ) → 0 < length w → none blank w ≡ true → none hash w ≡ true → none line_end w ≡ true → ProperWord w
