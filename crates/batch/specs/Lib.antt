@@ -2,5 +2,4 @@ pub mod Plans
 pub mod Batches
 pub mod Named
 pub mod Readings
-pub mod Walking
 pub mod WrittenReadings

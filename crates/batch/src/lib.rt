@@ -2,7 +2,6 @@
 #![tactic(auto)]
 
 pub mod faults;
-mod lines;
 pub mod plan;
 pub mod read;
 pub mod readings;

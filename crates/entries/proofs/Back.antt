@@ -1,6 +1,6 @@
 -- Written entries read back. Assumes nothing.
 use Rattle.std.proofs.Common.{◌≡◌, ℕ, ◌<◌, Bool, true, false, not, ◌&&◌, List, [], ◌∷◌, length, Some, Ok, Result, codes, decimal, sym, refl, ap, ◌∙◌, arith, lit<}
-use Rattle.std.proofs.lemmas.Bool.{and_parts}
+use Rattle.std.proofs.lemmas.Bool.{and_parts, not-true}
 use Rattle.std.specs.List.{AllByRecursion}
 use Rattle.std.specs.Option.{ok_or}
 use Rattle.meter.specs.declared.kind.TableKind.{TableKind}
@@ -18,7 +18,8 @@ use Rattle.entries.specs.declared.word.Keyword.TheVariants as first
 use Rattle.entries.specs.declared.word.MeterForm.TheVariants.{Table, Pair}
 use Rattle.entries.specs.Asked.{Asked, asks_label, asks_open, asks_call, asks_table, asks_pair, asks_statement, asks_compare}
 use Rattle.entries.specs.Reading.{label_saying, label_after, open_after, enrol_after, nominate_after, announce_after, revoke_after, close_after, table_after, pair_after, meter_after, statement_after, compare_after, entry_after, entry_from, entry_of_line}
-use Rattle.entries.specs.Taking.{then, take_word, take_figure, no_more, last_word, last_figure}
+use Rattle.text.specs.Going.{then}
+use Rattle.entries.specs.Taking.{take_word, take_figure, no_more, last_word, last_figure}
 use Rattle.entries.specs.Words.{figure_from, figure_of, keyword_of, meter_form_of}
 use Rattle.entries.specs.Written.{spaced, call_words, kind_word, entry_words, entry_text, Without, Number32, ProperWord, ProperText, ProperCall, Proper, WrittenEntriesReadBack, WrittenEntriesAreOneLine}
 
@@ -31,13 +32,9 @@ abbrev none : (ℕ → Bool) → List ℕ → Bool
 none p [] = true
 none p (b ∷ bs) = not (p b) && none p bs
 
-none_says : (b : Bool) → not b ≡ true → b ≡ false
-none_says false e = refl
-none_says true e = sym e
-
 without_by : (p : ℕ → Bool) (bs : List ℕ) → none p bs ≡ true → Without p bs
 without_by p [] e = tt
-without_by p (b ∷ bs) e = let both = and_parts (not (p b)) (none p bs) e in (none_says (p b) both.0, without_by p bs both.1)
+without_by p (b ∷ bs) e = let both = and_parts (not (p b)) (none p bs) e in (not-true (p b) both.0, without_by p bs both.1)
 
 -- a word that is written out
 plain : (w : List ℕ) → 0 < length w → none blank w ≡ true → none hash w ≡ true → none line_end w ≡ true → ProperWord w

@@ -23,24 +23,17 @@ use Rattle.entries.specs.declared.word.MeterForm.{MeterForm}
 use Rattle.entries.specs.declared.word.MeterForm.TheVariants.{Table, Pair}
 use Rattle.entries.specs.Asked.{Asked}
 use Rattle.entries.specs.Reading.{label_saying, label_after, open_after, enrol_after, nominate_after, announce_after, revoke_after, close_after, table_after, pair_after, meter_after, form_after, statement_after, compare_after, entry_after, entry_from, entry_of_line}
-use Rattle.entries.specs.Taking.{then, take_word, take_figure, no_more, last_word, last_figure}
+use Rattle.text.proofs.Going.{made_then}
+use Rattle.entries.specs.Taking.{take_word, take_figure, no_more, last_word, last_figure}
 use Rattle.entries.specs.Words.{meaning, kinds, kind_named, other_figure, figure_from, figure_of, keyword_of, meter_form_of}
 use Rattle.entries.specs.Written.{Without, Number32, ProperWord, Proper, EntriesReadAreProper}
 use Rattle.entries.proofs.Back.{Fit}
 
 -- what holds of a part that is read, and then of what is made of it
-made_then : {X Y : Type 0} (P : X → Type 0) (Q : Y → Type 0) (r : Result X EntryFault) (go : X → Result Y EntryFault) → IfOk r P → ((x : X) → P x → IfOk (go x) Q) → IfOk (then r go) Q
-made_then P Q (Ok x) go h k = k x h
-made_then P Q (Err e) go h k = tt
-
 -- what holds of anything at all
 anything : {X : Type 0} (r : Result X EntryFault) → IfOk r (λ _. Unit {0})
 anything (Ok x) = tt
 anything (Err e) = tt
-
-either : {X F : Type 0} (P : X → Type 0) (b : Bool) (r s : Result X F) → IfOk r P → IfOk s P → IfOk (cond b r s) P
-either P true r s h k = h
-either P false r s h k = k
 
 -- a number that is read is one of 32 bits
 number_small : (w : List ℕ) → IfOk (number_of w) Number32
@@ -48,11 +41,11 @@ unfolding number_of
 number_small [] = tt
 number_small (c ∷ cs) =
     let n = number_from 0 (c ∷ cs) in
-    either Number32 (all_ascii_digits (c ∷ cs)) (within_32_bits n) _ (cond_both (leb n 4294967295) (Ok n) (Err TooLarge) (λ r. IfOk r Number32) (λ e. leb-true n 4294967295 e) (λ e. tt)) tt
+    cond_both (all_ascii_digits (c ∷ cs)) (within_32_bits n) _ (λ r. IfOk r Number32) (λ _. cond_both (leb n 4294967295) (Ok n) (Err TooLarge) (λ r. IfOk r Number32) (λ e. leb-true n 4294967295 e) (λ e. tt)) (λ _. tt)
 
 meaning_has : {X : Type 0} (P : X → Type 0) (fault : EntryFault) (ps : List (List ℕ × X)) (w : List ℕ) → AllByRecursion (λ p. P p.1) ps → IfOk (meaning fault ps w) P
 meaning_has P fault [] w h = tt
-meaning_has P fault (p ∷ ps) w h = either P (bytes_eq w p.0) (Ok p.1) (meaning fault ps w) h.0 (meaning_has P fault ps w h.1)
+meaning_has P fault (p ∷ ps) w h = cond_both (bytes_eq w p.0) (Ok p.1) (meaning fault ps w) (λ r. IfOk r P) (λ _. h.0) (λ _. meaning_has P fault ps w h.1)
 
 stamp_small : (w : List ℕ) (o : Option ℕ) → stamp_of w ≡ o → IfOk (ok_or o NoMoment) Number32
 stamp_small w None e = tt

@@ -11,7 +11,8 @@ use Rattle.entries.specs.declared.word.MeterForm.{MeterForm}
 use Rattle.entries.specs.declared.word.MeterForm.TheVariants.{Table, Pair}
 use Rattle.entries.specs.declared.word.Figure.TheVariants.{Number, Moment, Kind}
 use Rattle.entries.specs.Asked.{Asked, asks_label, asks_open, asks_call, asks_table, asks_pair, asks_statement, asks_compare}
-use Rattle.entries.specs.Taking.{then, take_word, take_figure, no_more, last_word, last_figure}
+use Rattle.text.specs.Going.{then}
+use Rattle.entries.specs.Taking.{take_word, take_figure, no_more, last_word, last_figure}
 use Rattle.entries.specs.Words.{keyword_of, meter_form_of}
 
 -- a label has a text

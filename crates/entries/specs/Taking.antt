@@ -2,16 +2,12 @@
 use Rattle.std.specs.Prelude.{ℕ, List, Some, None, Ok, Err, Option, Result}
 use Rattle.std.specs.Borrow.{Bor}
 use Rattle.std.specs.Option.{ok_or}
+use Rattle.text.specs.Going.{then}
 use Rattle.text.specs.Pieces.{next_word}
 use Rattle.entries.specs.declared.entry.EntryFault.{EntryFault}
 use Rattle.entries.specs.declared.entry.EntryFault.TheVariants.{TooFewWords, TooManyWords}
 use Rattle.entries.specs.declared.word.Figure.{Figure}
 use Rattle.entries.specs.Words.{figure_of}
-
--- go on with what was read; a fault stays
-abbrev pub then : {X Y : Type 0} → Result X EntryFault → (X → Result Y EntryFault) → Result Y EntryFault
-then (Ok x) go = go x
-then (Err e) go = Err e
 
 -- what was read, seen as its bytes; a fault stays
 abbrev pub read_as : {X Y : Type 0} → (X → Y) → Result X EntryFault → Result Y EntryFault

@@ -1,7 +1,7 @@
 -- Passing over the blanks at both ends of a line. Assumes nothing.
 use Rattle.std.proofs.Common.{◌≡◌, ℕ, zero, suc, ◌+◌, ◌-◌, ◌<◌, ◌≤◌, Bool, true, false, not, cond, Some, None, subst, List, [], ◌∷◌, reverse, length, get_or, take, drop, IsUtf8, sym, refl, ap, ◌∙◌, arith}
 use Rattle.std.proofs.lemmas.List.{drop_all, take_more, take_all, reverse-append, reverse-reverse}
-use Rattle.std.proofs.lemmas.Str.{IsCharBoundary-start, IsCharBoundary-end, IsCharBoundary-before_ascii, IsCharBoundary-after_ascii}
+use Rattle.std.proofs.lemmas.Str.{IsCharBoundary-start, IsCharBoundary-after_ascii}
 use Rattle.std.proofs.lemmas.List.Quantifiers.{position-Some}
 use Rattle.std.proofs.lemmas.Bool.{not-false}
 use Rattle.std.proofs.lemmas.Bool.Decides.{nat_tests}
@@ -55,39 +55,25 @@ all_blank bs none =
     sym (drop_all (position_or_len solid_byte bs) bs at_end) ∙ unblanked_is bs
 
 -- what is left of a line up to its last byte that is no blank
-abbrev pub to_last : List ℕ → List ℕ
+abbrev to_last : List ℕ → List ℕ
 to_last bs = reverse (unblanked (reverse bs))
-
--- all bytes from end on are blanks
-pub record PassedBack (bs : List ℕ) (end : ℕ) : Type 0 where
-  pub between : IsCharBoundary bs end
-  pub left : to_last (take end bs) ≡ to_last bs
-
-pub none_passed_back : (bs : List ℕ) → PassedBack bs (length bs)
-none_passed_back bs = record { between = IsCharBoundary-end bs; left = ap to_last (take_all (length bs) bs (omega arith)) }
 
 reverse_front : (bs : List ℕ) (i : ℕ) → i < length bs → reverse (take (i + 1) bs) ≡ get_or bs i 0 ∷ reverse (take i bs)
 reverse_front bs i lt = ap reverse (take_more bs i 0 lt) ∙ reverse-append (take i bs) (get_or bs i 0 ∷ [])
 
-pub one_passed_back : (bs : List ℕ) (end : ℕ) → 0 < end → blank (get_or bs (end - 1) 0) ≡ true → PassedBack bs end → PassedBack bs (end - 1)
-one_passed_back bs end some e h =
-    let i = end - 1 in
-    let inside = h.between.0 in
-    let lt : end - 1 < length bs = omega arith in
-    let back : end - 1 + 1 ≡ end = omega arith in
-    record {
-      between = IsCharBoundary-before_ascii bs i lt (ascii_blank (get_or bs i 0) e);
-      left = ap reverse (sym (ap unblanked (reverse_front bs i lt) ∙ unblanked_yes (get_or bs i 0) (reverse (take i bs)) e)) ∙ ap (λ k. to_last (take k bs)) back ∙ h.left;
-    }
+-- from end on the line has blanks alone
+blank_from : (bs : List ℕ) (end more : ℕ) → end + more ≡ length bs → ((k : ℕ) → end ≤ k → k < length bs → blank (get_or bs k 0) ≡ true) → to_last (take end bs) ≡ to_last bs
+blank_from bs end zero all after = ap to_last (take_all end bs (omega arith))
+blank_from bs end (suc more) all after =
+    let inside : end < length bs = omega arith in
+    let here = unblanked_yes (get_or bs end 0) (reverse (take end bs)) (after end (omega arith) inside) in
+    ap reverse (sym (ap unblanked (reverse_front bs end inside) ∙ here)) ∙ blank_from bs (end + 1) more (omega arith) (λ k h lt. after k (omega arith) lt)
 
-pub word_ends : (bs : List ℕ) (end : ℕ) → 0 < end → blank (get_or bs (end - 1) 0) ≡ false → PassedBack bs end → take end bs ≡ to_last bs
-word_ends bs end some e h =
-    let i = end - 1 in
-    let inside = h.between.0 in
-    let lt : end - 1 < length bs = omega arith in
-    let back : end - 1 + 1 ≡ end = omega arith in
-    let front : reverse (take end bs) ≡ get_or bs i 0 ∷ reverse (take i bs) = ap (λ k. reverse (take k bs)) (sym back) ∙ reverse_front bs i lt in
-    sym (reverse-reverse (take end bs)) ∙ ap reverse (front ∙ sym (ap unblanked front ∙ unblanked_no (get_or bs i 0) (reverse (take i bs)) e)) ∙ h.left
+pub ends_at_last : (bs : List ℕ) (last : ℕ) → last < length bs → blank (get_or bs last 0) ≡ false → ((k : ℕ) → last < k → k < length bs → blank (get_or bs k 0) ≡ true) → take (last + 1) bs ≡ to_last bs
+ends_at_last bs last inside e after =
+    let front = reverse_front bs last inside in
+    sym (reverse-reverse (take (last + 1) bs)) ∙ ap reverse (front ∙ sym (ap unblanked front ∙ unblanked_no (get_or bs last 0) (reverse (take last bs)) e))
+    ∙ blank_from bs (last + 1) (length bs - (last + 1)) (omega arith) (λ k h lt. after k (omega arith) lt)
 
-pub all_passed_back : (bs : List ℕ) (end : ℕ) → end ≡ 0 → PassedBack bs end → take end bs ≡ to_last bs
-all_passed_back bs end none h = ap (λ k. take k bs) none ∙ sym (ap reverse unblanked_nil) ∙ ap (λ k. to_last (take k bs)) (sym none) ∙ h.left
+pub blanks_alone : (bs : List ℕ) → ((k : ℕ) → k < length bs → blank (get_or bs k 0) ≡ true) → [] ≡ to_last bs
+blanks_alone bs all = sym (ap reverse unblanked_nil) ∙ blank_from bs 0 (length bs) (omega arith) (λ k _ lt. all k lt)

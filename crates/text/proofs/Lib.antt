@@ -5,3 +5,4 @@ pub mod Blanks
 pub mod Written
 pub mod Stamps
 pub mod Words
+pub mod Going

@@ -1,5 +1,5 @@
 -- Marks are ASCII, so that a text may be cut before and after one. Assumes nothing.
-use Rattle.std.proofs.Common.{◌≡◌, ℕ, ◌+◌, ◌<◌, Bool, true, List, length, get_or, Some, IsUtf8, sym, ap, ◌∙◌, subst, arith}
+use Rattle.std.proofs.Common.{◌≡◌, ℕ, ◌+◌, ◌<◌, true, List, get_or, Some, IsUtf8, arith}
 use Rattle.std.proofs.lemmas.Str.{IsCharBoundary-before_ascii, IsCharBoundary-after_ascii}
 use Rattle.std.proofs.lemmas.Bool.Decides.{nat_tests}
 use Rattle.std.specs.List.{position}
@@ -13,7 +13,7 @@ use Rattle.text.proofs.Cutting.{inside, mark_there}
 pub ascii_blank : (b : ℕ) → blank b ≡ true → b < 128
 ascii_blank b e = grind (arith, nat_tests)
 
-pub ascii_mark : (mark : Mark) (b : ℕ) → stops_at mark b ≡ true → b < 128
+ascii_mark : (mark : Mark) (b : ℕ) → stops_at mark b ≡ true → b < 128
 ascii_mark LineEnd b e = grind (arith, nat_tests)
 ascii_mark Comment b e = grind (arith, nat_tests)
 ascii_mark Blank b e = ascii_blank b e
@@ -28,10 +28,3 @@ module _ (mark : Mark) (bs : List ℕ) (i : ℕ) (found : Some i ≡ position (s
 
   pub boundary_after_mark : IsUtf8 bs → IsCharBoundary bs (i + 1)
   boundary_after_mark u = IsCharBoundary-after_ascii bs i u (inside (stops_at mark) bs i found) there
-
--- what is seen of the bytes of a text holds of the text
-pub in_text : (mark : Mark) (i : ℕ) {bytes text : List ℕ} {seen : Bool} → bytes ≡ text → seen ≡ stops_at mark (get_or bytes i 0) → stops_at mark (get_or text i 0) ≡ seen
-in_text mark i same e = ap (λ l. stops_at mark (get_or l i 0)) (sym same) ∙ sym e
-
-pub within_text : {bytes text : List ℕ} {i : ℕ} → bytes ≡ text → i < length bytes → i < length text
-within_text {i = i} same lt = subst (λ l. i < length l) same lt

@@ -1,5 +1,5 @@
 -- Reading and writing stamps. Assumes nothing.
-use Rattle.std.proofs.Common.{◌≡◌, ℕ, ◌+◌, ◌-◌, ◌*◌, ◌/◌, ◌%◌, ◌<◌, ◌≤◌, true, false, cond, ◌&&◌, eqb, ltb, leb, List, length, get_or, IfSome, Some, None, Option, sym, refl, ap, ◌∙◌, ⊎_elim, arith}
+use Rattle.std.proofs.Common.{◌≡◌, ℕ, ◌+◌, ◌-◌, ◌*◌, ◌/◌, ◌%◌, ◌<◌, ◌≤◌, true, cond, ◌&&◌, eqb, ltb, leb, List, length, get_or, IfSome, Some, None, Option, sym, refl, ap, ◌∙◌, ⊎_elim, arith}
 use Rattle.std.proofs.lemmas.Slice.Eq.{text_from_reads}
 use Rattle.std.proofs.lemmas.Bool.{cases_Bool, cond-true, cond-false, cond_both, and_parts, leb-true, eqb-true, ltb-true}
 use Rattle.std.proofs.lemmas.Option.{MatchOption-at_some}
@@ -12,23 +12,12 @@ use Rattle.text.specs.Stamps.{StampsLieInTheSummer, WrittenStampsReadBack, AMome
 pub then_at : {X Y : Type 0} (o : Option X) (go : X → Option Y) {x : X} {y : Option Y} → Some x ≡ o → y ≡ go x → y ≡ and_then o go
 then_at o go e f = f ∙ ap (λ p. and_then p go) e
 
-pub then_none : {X Y : Type 0} (o : Option X) (go : X → Option Y) → None ≡ o → None ≡ and_then o go
-then_none o go e = ap (λ p. and_then p go) e
-
 -- what holds of whatever comes after holds of what there is at the end
 then_keeps : {X Y : Type 0} (P : Y → Type 0) (o : Option X) (go : X → Option Y) → ((x : X) → IfSome (go x) P) → IfSome (and_then o go) P
 then_keeps P (Some x) go each = each x
 then_keeps P None go each = tt
 
 -- ---- the moment of a month, a day, an hour and a minute
-
-pub no_day : (month day hour minute : ℕ) → None ≡ day_of_summer month day → None ≡ moment_of month day hour minute
-unfolding moment_of
-no_day month day hour minute e = then_none (day_of_summer month day) _ e
-
-pub no_minute : (month day hour minute : ℕ) {d : ℕ} → Some d ≡ day_of_summer month day → None ≡ minute_of_day hour minute → None ≡ moment_of month day hour minute
-unfolding moment_of
-no_minute month day hour minute e f = then_at (day_of_summer month day) _ e (then_none (minute_of_day hour minute) _ f)
 
 pub at_moment : (month day hour minute : ℕ) {d m : ℕ} → Some d ≡ day_of_summer month day → Some m ≡ minute_of_day hour minute → Some (d * 1440 + m) ≡ moment_of month day hour minute
 unfolding moment_of
@@ -37,29 +26,9 @@ at_moment month day hour minute e f = then_at (day_of_summer month day) _ e (the
 -- ---- the four numbers of a stamp
 
 module _ (word : List ℕ) where
-  pub unshaped : false ≡ shaped word → None ≡ stamp_of word
-  unfolding stamp_of
-  unshaped e = sym (cond-false (shaped word) _ None (sym e))
-
   module _ (whole : true ≡ shaped word) where
     whole_stamp : {x y : Option ℕ} → x ≡ y → x ≡ cond (shaped word) y None
     whole_stamp {x} {y} e = e ∙ sym (cond-true (shaped word) y None (sym whole))
-
-    pub no_month : None ≡ field word 0 → None ≡ stamp_of word
-    unfolding stamp_of
-    no_month e = whole_stamp (then_none (field word 0) _ e)
-
-    pub no_day_number : {a : ℕ} → Some a ≡ field word 0 → None ≡ field word 3 → None ≡ stamp_of word
-    unfolding stamp_of
-    no_day_number a e = whole_stamp (then_at (field word 0) _ a (then_none (field word 3) _ e))
-
-    pub no_hour : {a b : ℕ} → Some a ≡ field word 0 → Some b ≡ field word 3 → None ≡ field word 6 → None ≡ stamp_of word
-    unfolding stamp_of
-    no_hour a b e = whole_stamp (then_at (field word 0) _ a (then_at (field word 3) _ b (then_none (field word 6) _ e)))
-
-    pub no_minute_number : {a b c : ℕ} → Some a ≡ field word 0 → Some b ≡ field word 3 → Some c ≡ field word 6 → None ≡ field word 9 → None ≡ stamp_of word
-    unfolding stamp_of
-    no_minute_number a b c e = whole_stamp (then_at (field word 0) _ a (then_at (field word 3) _ b (then_at (field word 6) _ c (then_none (field word 9) _ e))))
 
     pub at_stamp : {a b c d : ℕ} → Some a ≡ field word 0 → Some b ≡ field word 3 → Some c ≡ field word 6 → Some d ≡ field word 9 → moment_of a b c d ≡ stamp_of word
     unfolding stamp_of

@@ -35,6 +35,9 @@ no_words bs e = words_next bs ∙ ap words_of (sym e)
 pub first_of_words : (bs word rest : List ℕ) → Some (word, rest) ≡ next_word bs → between_blanks bs ≡ word ∷ between_blanks rest
 first_of_words bs word rest e = words_next bs ∙ ap words_of (sym e)
 
+pub fewer_words : (bs word rest : List ℕ) → Some (word, rest) ≡ next_word bs → length (between_blanks rest) < length (between_blanks bs)
+fewer_words bs word rest e = omega (arith, ap length (first_of_words bs word rest e))
+
 solid_first : (ps : List (List ℕ)) {word : List ℕ} {rest : List (List ℕ)} → solid ps ≡ word ∷ rest → 0 < length word
 unfolding solid
 solid_first [] e = absurd (grind arith)

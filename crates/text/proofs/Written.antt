@@ -1,7 +1,6 @@
 -- What is written as words and numerals is cut and read back. Assumes nothing.
-use Rattle.std.proofs.Common.{◌≡◌, ℕ, ◌^◌, ◌<◌, ◌≤◌, Bool, true, false, cond, List, [], ◌∷◌, ◌++◌, length, Some, Ok, decimal, sym, refl, ap, ◌∙◌, append-nil, arith}
+use Rattle.std.proofs.Common.{◌≡◌, ℕ, ◌<◌, ◌≤◌, Bool, true, false, cond, List, [], ◌∷◌, ◌++◌, length, Some, Ok, decimal, sym, refl, ap, ◌∙◌, append-nil, arith}
 use Rattle.std.proofs.lemmas.Fmt.{digits_decimal, digits_value-decimal, decimal_nonempty}
-use Rattle.std.proofs.lemmas.Str.Parse.{IsNumeralModel, numerals_by_fold, tells_all_ascii_digits}
 use Rattle.std.proofs.lemmas.Bool.{and_parts, le-leb, ne_eqb}
 use Rattle.std.proofs.lemmas.Bool.Decides.{nat_tests}
 use Rattle.std.specs.List.{AllByRecursion}
@@ -9,7 +8,7 @@ use Rattle.std.specs.Str.{all_ascii_digits}
 use Rattle.std.specs.Char.{is_ascii_digit}
 use Rattle.text.specs.Numbers.{number_from, number_of}
 use Rattle.text.specs.Pieces.{line_end, hash, blank, comma, upto, beyond, onto, pieces, unblanked, first_word, next_word}
-use Rattle.text.proofs.Digits.{number_after, number_of_some}
+use Rattle.text.proofs.Digits.{numerals, digits_alone, digits_read}
 
 -- no byte of the list stops
 abbrev pub Free : (ℕ → Bool) → List ℕ → Type 0
@@ -70,32 +69,22 @@ pub free_digits : (p : ℕ → Bool) → Spares p → (ds : List ℕ) → all_as
 free_digits p s [] e = tt
 free_digits p s (d ∷ ds) e = let both = and_parts (is_ascii_digit d) (all_ascii_digits ds) e in (s d both.0, free_digits p s ds both.1)
 
--- digits write the number that they are read as
-pub numerals : IsNumeralModel (λ ds. all_ascii_digits ds ≡ true) (number_from 0)
-unfolding number_from
-numerals = numerals_by_fold _ tells_all_ascii_digits number_from (record { empty = λ n. refl; more = λ n c cs h. refl })
-
--- a number of 32 bits is one of 64
-small : (n : ℕ) → n ≤ 4294967295 → n < 2 ^ 64
-small n h = omega arith
-
 module _ (n : ℕ) (h : n ≤ 4294967295) where
   pub digits_numeral : all_ascii_digits (decimal n) ≡ true
-  digits_numeral = digits_decimal numerals n (small n h)
+  digits_numeral = digits_decimal numerals n (omega arith)
 
   pub numeral_some : 0 < length (decimal n)
-  numeral_some = decimal_nonempty n (small n h)
+  numeral_some = decimal_nonempty n (omega arith)
 
   pub numeral_value : number_from 0 (decimal n) ≡ n
-  numeral_value = digits_value-decimal numerals n (small n h)
+  numeral_value = digits_value-decimal numerals n (omega arith)
 
   pub free_numeral : (p : ℕ → Bool) → Spares p → Free p (decimal n)
   free_numeral p s = free_digits p s (decimal n) digits_numeral
 
   -- a numeral reads back
   pub number_back : number_of (decimal n) ≡ Ok n
-  unfolding number_after
-  number_back = sym (number_of_some (decimal n) numeral_some) ∙ (rw (digits_numeral, numeral_value, le-leb n 4294967295 h) refl)
+  number_back = sym (digits_read (decimal n) numeral_some (digits_alone (decimal n) ∙ digits_numeral)) ∙ (rw (numeral_value, le-leb n 4294967295 h) refl)
 
 unblanked_word : (w rest : List ℕ) → Free blank w → 0 < length w → unblanked (w ++ rest) ≡ w ++ rest
 unfolding unblanked

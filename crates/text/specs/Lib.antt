@@ -3,3 +3,4 @@ pub mod Numbers
 pub mod Stops
 pub mod Left
 pub mod Stamps
+pub mod Going

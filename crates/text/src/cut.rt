@@ -25,6 +25,7 @@ fn first_mark(text: &str, mark: Mark) -> Option<usize>
 }
 
 // Cuts the text at the first mark; without one, the piece is all of it.
+#[tactic(auto, using(crate::proofs::Marks::boundary_before_mark, crate::proofs::Marks::boundary_after_mark, crate::proofs::Cutting::before_mark, crate::proofs::Cutting::after_mark, crate::proofs::Cutting::whole, crate::proofs::Cutting::nothing))]
 pub fn cut(text: &str, mark: Mark) -> Parts<'_>
     ensures piece { result.piece.now ≡ upto (stops_at mark) text.now }
     ensures rest { result.rest.now ≡ beyond (stops_at mark) text.now }

@@ -32,6 +32,7 @@ impl<'a> Iterator for Lines<'a> {
 
     ghost remaining = { item_count lines_left };
 
+    #[tactic(auto, using(crate::proofs::Cutting::no_pieces, crate::proofs::Cutting::first_piece, crate::proofs::Cutting::fewer_pieces))]
     fn next(&mut self) -> Option<&'a str> {
         if self.rest.is_empty() {
             return None;

@@ -1,9 +1,7 @@
-ghost use Rattle.std.specs.Prelude.{◌≡◌, ◌+◌, ◌-◌, ◌*◌, ◌≤◌};
-ghost use Rattle.std.specs.Int.{IsInRange};
-ghost use Rattle.text.specs.Numbers.{within_32_bits, number_of};
-
-// The most that a number may be.
-const HIGHEST: u64 = 4_294_967_295;
+ghost use Rattle.std.specs.Prelude.{◌≡◌, ◌<◌, true, length};
+ghost use Rattle.std.specs.Char.{is_ascii_digit};
+ghost use Rattle.std.specs.List.{list_all};
+ghost use Rattle.text.specs.Numbers.{number_from, within_32_bits, number_of};
 
 // Why a word is no number of 32 bits: it is empty or has a byte that is no decimal digit, or its number is above 4,294,967,295.
 #[derive(Clone, Copy, PartialEq, Eq, Debug)]
@@ -12,48 +10,30 @@ pub enum NumberFault {
     TooLarge,
 }
 
-// The number with one more digit at its end.
-fn with_digit(value: u64, digit: u8) -> u64
-    requires small { value ≤ 4294967295 }
-    requires digit { IsInRange 48 57 digit }
-    ensures { result ≡ value * 10 + (digit - 48) }
+// Whether each byte of a word is a decimal digit.
+fn all_digits(word: &str) -> bool
+    ensures { result ≡ list_all is_ascii_digit word.now }
 {
-    value * 10 + u64::from(digit - b'0')
+    word.bytes().all(|byte| byte.is_ascii_digit())
 }
 
-// A number of at most 32 bits, as it stands.
-fn within_32_bits(value: u64) -> Result<u32, NumberFault>
-    ensures { result ≡ within_32_bits value }
+// The number of at most 32 bits that digits write.
+#[tactic(auto, using(crate::proofs::Digits::parsed))]
+fn within_32_bits(digits: &str) -> Result<u32, NumberFault>
+    requires some { 0 < length digits.now }
+    requires digits { list_all is_ascii_digit digits.now ≡ true }
+    ensures { result ≡ within_32_bits (number_from 0 digits.now) }
 {
-    if value > HIGHEST {
-        return Err(NumberFault::TooLarge);
-    }
-    Ok(value as u32)
-}
-
-// Reads the digits of a word, one after another.
-fn read_digits(word: &str) -> Result<u32, NumberFault>
-    ensures { result ≡ number_of word.now }
-{
-    let bytes = word.as_bytes();
-    if bytes.is_empty() {
-        return Err(NumberFault::NoNumber);
-    }
-    let mut value: u64 = 0;
-    for digit in bytes {
-        if !digit.is_ascii_digit() {
-            return Err(NumberFault::NoNumber);
-        }
-        if value <= HIGHEST {
-            value = with_digit(value, *digit);
-        }
-    }
-    within_32_bits(value)
+    digits.parse::<u32>().or(Err(NumberFault::TooLarge))
 }
 
 // Reads a word as a number: decimal digits, at least one, and nothing else.
+#[tactic(auto, using(crate::proofs::Digits::no_number, crate::proofs::Digits::no_digits, crate::proofs::Digits::digits_read))]
 pub fn number(word: &str) -> Result<u32, NumberFault>
     ensures { result ≡ number_of word.now }
 {
-    read_digits(word)
+    if word.is_empty() || !all_digits(word) {
+        return Err(NumberFault::NoNumber);
+    }
+    within_32_bits(word)
 }

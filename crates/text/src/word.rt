@@ -1,7 +1,7 @@
 ghost use Rattle.std.specs.Prelude.{◌≡◌, ◌<◌, ◌^◌, not, length, reverse};
 ghost use Rattle.std.specs.List.{position};
 ghost use Rattle.std.specs.Option.{option_map};
-ghost use Rattle.text.specs.Pieces.{blank, unblanked, trimmed, first_word, next_word, between_blanks};
+ghost use Rattle.text.specs.Pieces.{blank, unblanked, trimmed, next_word, between_blanks};
 ghost use Rattle.text.specs.Stops.{parts_of};
 
 use crate::cut::{cut, is_mark};
@@ -15,6 +15,7 @@ fn first_solid(line: &str) -> Option<usize>
 }
 
 // The line from its first byte on that is no blank.
+#[tactic(auto, using(crate::proofs::Blanks::word_boundary, crate::proofs::Blanks::word_begins, crate::proofs::Blanks::all_blank))]
 fn unblank(line: &str) -> &str
     ensures { result.now ≡ unblanked line.now }
 {
@@ -24,34 +25,22 @@ fn unblank(line: &str) -> &str
     }
 }
 
-// The word with which the line begins, and what follows the blank that ends it; `None` where the line has no byte.
-fn first_word(line: &str) -> Option<Parts<'_>>
-    ensures { option_map parts_of result ≡ first_word line.now }
-{
-    if line.is_empty() {
-        return None;
-    }
-    Some(cut(line, Mark::Blank))
-}
-
 // The first word of the line after any blanks, and what follows the blank that ends it; `None` where the line has no word.
 pub fn next_word(line: &str) -> Option<Parts<'_>>
     ensures { option_map parts_of result ≡ next_word line.now }
 {
-    first_word(unblank(line))
+    let words = unblank(line);
+    (!words.is_empty()).then(|| cut(words, Mark::Blank))
 }
 
 // The line up to its last byte that is no blank.
 fn unblank_end(line: &str) -> &str
     ensures { result.now ≡ reverse (unblanked (reverse line.now)) }
 {
-    // Kept as a `while`: with `rposition` it stays open which byte is the last that is no blank, since no list word states what it gives.
-    let bytes = line.as_bytes();
-    let mut end = bytes.len();
-    while end > 0 && is_mark(Mark::Blank, bytes[end - 1]) {
-        end -= 1;
+    match line.bytes().rposition(|byte| !is_mark(Mark::Blank, byte)) {
+        Some(last) => line.split_at(last + 1).0,
+        None => "",
     }
-    line.split_at(end).0
 }
 
 // The line without the blanks at both its ends.
@@ -89,6 +78,7 @@ impl<'a> Iterator for Words<'a> {
 
     ghost remaining = { item_count words_left };
 
+    #[tactic(auto, using(crate::proofs::Words::no_words, crate::proofs::Words::first_of_words, crate::proofs::Words::fewer_words))]
     fn next(&mut self) -> Option<&'a str> {
         let word = next_word(self.rest)?;
         self.rest = word.rest;
