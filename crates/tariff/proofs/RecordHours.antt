@@ -23,6 +23,7 @@ use Rattle.tariff.specs.declared.statement.HourLine.{HourLine}
 use Rattle.tariff.specs.declared.statement.WeekLine.{WeekLine}
 use Rattle.tariff.specs.declared.statement.Statement.{Statement}
 use Rattle.tariff.proofs.HoursOfEvents.{listed_at, none_left_out, hours_rise}
+use Rattle.tariff.proofs.Totals.{count_same}
 use Rattle.tariff.proofs.RecordFilled.{statement_is, number_is, weeks_few, sixty_lines, ten_weeks, line_is, unused_line, week_is, unused_week}
 
 -- ---- counts
@@ -31,11 +32,6 @@ count_none : (p : ℕ → Bool) (n : ℕ) → ((k : ℕ) → k < n → p k ≡ f
 unfolding count
 count_none p zero h = refl
 count_none p (suc n) h = ap₂ ◌+◌ (count_none p n (λ k l. h k (omega arith))) (ap (λ (b : Bool). cond b 1 0) (h n (omega arith)))
-
-count_same : (p q : ℕ → Bool) (n : ℕ) → ((k : ℕ) → k < n → p k ≡ q k) → count p n ≡ count q n
-unfolding count
-count_same p q zero h = refl
-count_same p q (suc n) h = ap₂ ◌+◌ (count_same p q n (λ k l. h k (omega arith))) (ap (λ (b : Bool). cond b 1 0) (h n (omega arith)))
 
 count_front : {X : Type 0} (p : X → Bool) (xs : List X) (o : X) (i : ℕ) → i ≤ length xs → count (λ k. p (get_or xs k o)) i ≡ count_by p (take i xs)
 unfolding count
