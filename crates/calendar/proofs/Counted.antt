@@ -2,6 +2,7 @@
 use Rattle.std.proofs.Common.{◌≡◌, ℕ, zero, suc, ◌+◌, Bool, cond, length, filter, ap, zero-add, arith}
 use Rattle.std.specs.List.{range_with_len, count_by}
 use Rattle.std.proofs.lemmas.List.Sums.{length-filter, sum_by-cons}
+use Rattle.tariff.specs.Calendar.{programme_day, programme_days}
 use Rattle.tariff.specs.Counting.{count}
 use Rattle.tariff.proofs.Totals.{count_none, count_more}
 
@@ -13,7 +14,11 @@ counted_from p a (suc n) =
     let end : count p (a + suc n) ≡ count p (a + 1 + n) = ap (count p) (omega arith) in
     omega (arith, one, end, count_more p a, counted_from p (a + 1) n)
 
-pub range_counted : (p : ℕ → Bool) (n : ℕ) → length (filter p (range_with_len 0 n)) ≡ count p n
+range_counted : (p : ℕ → Bool) (n : ℕ) → length (filter p (range_with_len 0 n)) ≡ count p n
 range_counted p n =
     let end : count p (0 + n) ≡ count p n = ap (count p) (zero-add n) in
     omega (arith, length-filter p (range_with_len 0 n), counted_from p 0 n, count_none p, end)
+
+pub programme_days_counted : (year week : ℕ) → length (filter (programme_day year week) (range_with_len 0 76)) ≡ programme_days year week
+unfolding programme_days
+programme_days_counted year week = range_counted (programme_day year week) 76
