@@ -2,9 +2,10 @@ use Rattle.std.proofs.Common.{◌≡◌, sym, ap, ◌∙◌, subst, arith, rules
 use Rattle.std.specs.List.{AllByRecursion}
 use Rattle.tariff.specs.Events.{day_hours, day_in, event_hours_before, standing_before}
 use Rattle.tariff.proofs.EventHours.{event_hours_none, hours_none, hours_more}
+use Rattle.tariff.proofs.Runs.{stood}
 use Rattle.season.specs.Hours.{Placed, hours_listed}
 use Rattle.season.specs.View.{view}
-use Rattle.season.proofs.HourLists.{counted_is, day_listed, day_room, stood, all_placed}
+use Rattle.season.proofs.HourLists.{counted_is, day_listed, day_room, all_placed}
 use Rattle.season.proofs.Sounds.{sound_of}
 use Rattle.season.proofs.season.Season.hours_before.Goals as goal
 
