@@ -1,5 +1,5 @@
 -- The hours of standing events as they are listed: one hour more, one day more, and what is known of each hour.
-use Rattle.std.proofs.Common.{◌≡◌, ℕ, zero, suc, ◌+◌, ◌-◌, ◌<◌, ◌≤◌, Bool, true, false, cond, List, [], ◌∷◌, ◌++◌, map, length, drop, set, replicate, sym, ap, ◌∙◌, inl, inr, add-one, arith}
+use Rattle.std.proofs.Common.{◌≡◌, ℕ, zero, suc, ◌+◌, ◌-◌, ◌<◌, ◌≤◌, Bool, true, false, cond, List, [], ◌∷◌, ◌++◌, map, drop, set, replicate, sym, ap, ◌∙◌, inl, inr, add-one, arith}
 use Rattle.std.specs.List.{AllByRecursion, range_with_len}
 use Rattle.std.proofs.lemmas.List.FromFn.{map-range_with_len_more}
 use Rattle.std.proofs.lemmas.List.{append_assoc, drop-drop, drop-set-lt, drop-replicate}
@@ -27,11 +27,6 @@ listed_more f xs ys a h le e =
 -- one day more in the list
 pub day_listed : (days : List Day) (d n : ℕ) (xs ys : List EventHour) (x : Day) → n ≡ standing_before days d → xs ≡ event_hours_before days d → x ≡ day_in days d → ys ≡ xs ++ hours_on (n + 1) d x → ys ≡ event_hours_before days (d + 1)
 day_listed days d n xs ys x numbered so held e = cc (event_hours_more days d)
-
--- a count of hours is the length of their list
-pub counted_is : (days : List Day) (d n k : ℕ) → d ≡ n → k ≡ hours_before days d → k ≡ length (event_hours_before days n)
-unfolding hours_before
-counted_is days d n k end e = e ∙ ap (hours_before days) end
 
 hours_least : (days : List Day) (m n : ℕ) → m ≤ n → hours_before days m ≤ hours_before days n
 hours_least days m zero h = let z : m ≡ 0 = omega arith in rw z (omega arith)

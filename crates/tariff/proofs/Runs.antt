@@ -155,7 +155,7 @@ announced_sound s m start len a p =
     fit = grind (arith, nat_tests)
 
 -- a standing event was announced
-pub stood : (x : Day) → stands x ≡ true → announced x ≡ true
+stood : (x : Day) → stands x ≡ true → announced x ≡ true
 stood NoEvent h = h
 stood (Standing e) h = refl
 stood (Revoked e) h = refl
