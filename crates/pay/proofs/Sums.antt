@@ -1,13 +1,12 @@
 -- Sums over measured hours and weeks, as chains come to them and as the tariff has them.
-use Rattle.std.proofs.Common.{◌≡◌, ℕ, ◌+◌, ◌-◌, ◌≤◌, List, map, length, get_or, sum_by, filter, nat_eq, sym, refl, ap, ◌∙◌, ap₂, arith}
+use Rattle.std.proofs.Common.{◌≡◌, ℕ, ◌+◌, ◌-◌, ◌≤◌, List, length, get_or, sum_by, filter, nat_eq, sym, refl, ap, ◌∙◌, ap₂, arith}
 use lib.ListN.{length-map}
-use mathlib.Core.List.{map-map}
-use Rattle.std.specs.List.{sum}
-use Rattle.std.proofs.lemmas.List.Sums.{sum-map, sum_by-le, length-filter, count_by-le-length}
+use Rattle.std.proofs.lemmas.List.Sums.{sum_by-le, length-filter, count_by-le-length}
 use Rattle.tariff.specs.Pay.{energy_for, adjustment_for, capacity_for, counted_reduction, counted_sum, charged_of, incentive_of, priced, filled, no_hour, no_week}
 use Rattle.tariff.specs.declared.statement.HourLine.{HourLine}
 use Rattle.tariff.specs.declared.statement.MeasuredHour.{MeasuredHour}
 use Rattle.tariff.specs.declared.statement.WeekLine.{WeekLine}
+use Rattle.tariff.proofs.Pointwise.{sumBy_map}
 use Rattle.tariff.proofs.RecordFilled.{sumBy_filled}
 use Rattle.pay.specs.declared.placed.PlacedHour.{PlacedHour}
 use Rattle.pay.specs.Paying.{measured_list, measured_in_week, hour_lines_of, week_line_in, week_lines_of, totalled, statement_from}
@@ -44,9 +43,6 @@ counted_few nominated w hours l =
     omega (arith, those_few w hours, sum_by-le (counted_in nominated) 120000000 those (λ k d i. counted_low nominated (get_or those k d)))
 
 -- ---- the tariff's own sums
-
-pub sumBy_map : {X Y : Type 0} (f : Y → ℕ) (g : X → Y) (xs : List X) → sum_by (λ x. f (g x)) xs ≡ sum_by f (map g xs)
-sumBy_map f g xs = sym (sum-map (λ x. f (g x)) xs) ∙ ap sum (sym (map-map f g xs)) ∙ sum-map f (map g xs)
 
 pub energy_sum : (hours : List PlacedHour) → sum_by energy_in hours ≡ sum_by (λ l. l.energy) (hour_lines_of hours)
 unfolding hour_lines_of

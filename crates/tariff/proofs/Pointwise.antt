@@ -1,5 +1,6 @@
 -- Lists alike place by place, and what functions that agree on a list's elements make of it.
 use Rattle.std.proofs.Common.{◌≡◌, ℕ, zero, suc, ◌+◌, ◌-◌, ◌≤◌, Bool, List, [], ◌∷◌, ◌++◌, map, length, get_or, replicate, sum_by, filter, Option, sym, refl, ap, ◌∙◌, ap₂, inl, inr, arith}
+use mathlib.Core.List.{map-map}
 use Rattle.std.specs.List.{AllZip, AllByRecursion, sum}
 use Rattle.std.proofs.lemmas.List.Elements.{length_all_zip}
 use Rattle.std.proofs.lemmas.List.{get_or-replicate, get_or_past, length-replicate}
@@ -25,6 +26,9 @@ map_same f g (x ∷ xs) h = ap₂ ◌∷◌ h.0 (map_same f g xs h.1)
 
 pub sumBy_same : {X : Type 0} (f g : X → ℕ) (xs : List X) → AllByRecursion (λ x. f x ≡ g x) xs → sum_by f xs ≡ sum_by g xs
 sumBy_same f g xs h = sym (sum-map f xs) ∙ ap sum (map_same f g xs h) ∙ sum-map g xs
+
+pub sumBy_map : {X Y : Type 0} (f : Y → ℕ) (g : X → Y) (xs : List X) → sum_by (λ x. f (g x)) xs ≡ sum_by f (map g xs)
+sumBy_map f g xs = sym (sum-map (λ x. f (g x)) xs) ∙ ap sum (sym (map-map f g xs)) ∙ sum-map f (map g xs)
 
 pub first_same : {A X : Type 0} (f g : A → Option X) (xs : List A) → AllByRecursion (λ a. f a ≡ g a) xs → first_some f xs ≡ first_some g xs
 unfolding first_some

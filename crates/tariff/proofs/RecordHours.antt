@@ -1,5 +1,5 @@
 -- No event hour is left out of a statement, and none comes twice.
-use Rattle.std.proofs.Common.{◌≡◌, ℕ, zero, suc, ◌+◌, ◌<◌, ◌≤◌, Bool, true, false, cond, List, [], ◌∷◌, map, length, get_or, take, Ok, count_by, filter, sym, refl, ap, ◌∙◌, subst, ap₂, inl, inr, add-one, arith}
+use Rattle.std.proofs.Common.{◌≡◌, ℕ, zero, suc, ◌+◌, ◌<◌, ◌≤◌, Bool, true, false, cond, List, map, length, get_or, take, Ok, count_by, filter, sym, refl, ap, ◌∙◌, subst, ap₂, inl, inr, add-one, arith}
 use Rattle.std.proofs.lemmas.List.{take_all}
 use Rattle.std.proofs.lemmas.List.Sums.{sum_by_more, length-filter}
 use Rattle.std.proofs.lemmas.Bool.{cases_Bool, cases_order}
@@ -23,6 +23,7 @@ use Rattle.tariff.specs.declared.statement.HourLine.{HourLine}
 use Rattle.tariff.specs.declared.statement.WeekLine.{WeekLine}
 use Rattle.tariff.specs.declared.statement.Statement.{Statement}
 use Rattle.tariff.proofs.HoursOfEvents.{listed_at, none_left_out, hours_rise}
+use Rattle.tariff.proofs.Pointwise.{sumBy_map}
 use Rattle.tariff.proofs.Totals.{count_same}
 use Rattle.tariff.proofs.RecordFilled.{statement_is, number_is, weeks_few, sixty_lines, ten_weeks, line_is, unused_line, week_is, unused_week}
 
@@ -45,12 +46,7 @@ count_places : {X : Type 0} (p : X → Bool) (xs : List X) (o : X) → count (λ
 count_places p xs o = count_front p xs o (length xs) (omega arith) ∙ ap (count_by p) (take_all (length xs) xs (omega arith)) ∙ sym (length-filter p xs)
 
 length_kept_map : {X Y : Type 0} (p : Y → Bool) (f : X → Y) (xs : List X) → length (filter p (map f xs)) ≡ length (filter (λ x. p (f x)) xs)
-length_kept_map p f [] = refl
-length_kept_map p f (x ∷ xs) =
-    elim (cases_Bool (p (f x))) [
-      | inl e ↦ rw e (ap suc (length_kept_map p f xs))
-      | inr e ↦ rw e (length_kept_map p f xs)
-    ]
+length_kept_map p f xs = length-filter p (map f xs) ∙ sym (sumBy_map (λ y. cond (p y) 1 0) f xs) ∙ sym (length-filter (λ x. p (f x)) xs)
 
 -- ---- the lines of a sound season
 
