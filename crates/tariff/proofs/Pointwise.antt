@@ -3,20 +3,17 @@ use Rattle.std.proofs.Common.{◌≡◌, ℕ, zero, suc, ◌+◌, ◌-◌, ◌�
 use mathlib.Core.List.{map-map}
 use Rattle.std.specs.List.{AllZip, AllByRecursion, sum}
 use Rattle.std.proofs.lemmas.List.Elements.{length_all_zip}
-use Rattle.std.proofs.lemmas.List.{get_or-replicate, get_or_past, length-replicate}
 use Rattle.std.proofs.lemmas.List.Sums.{sum_by-cons, sum-map}
-use Rattle.std.proofs.lemmas.Bool.{cases_Bool, cases_lt}
+use Rattle.std.proofs.lemmas.Bool.{cases_Bool}
 use Rattle.tariff.specs.Faults.{first_some}
 use Rattle.tariff.specs.Pay.{filled}
 
 -- ---- one element again and again
 
 pub replicate_at : {X : Type 0} (z : X) (n k : ℕ) → get_or (replicate n z) k z ≡ z
-replicate_at z n k =
-    elim (cases_lt k n) [
-      | inl l ↦ get_or-replicate n k z z l
-      | inr l ↦ get_or_past (replicate n z) k z (omega (arith, length-replicate n z))
-    ]
+replicate_at z zero k = refl
+replicate_at z (suc n) zero = refl
+replicate_at z (suc n) (suc k) = replicate_at z n k
 
 -- ---- functions that agree
 
