@@ -2,7 +2,8 @@
 // any numbers.
 #![tactic(auto)]
 
-ghost use Rattle.std.specs.Prelude.{◌≡◌, ◌<◌, ◌≤◌};
+ghost use Rattle.std.specs.Prelude.{◌≡◌, ◌<◌, ◌≤◌, filter, length};
+ghost use Rattle.std.specs.List.{range_with_len};
 ghost use Rattle.tariff.specs.Calendar as spec;
 
 // The weekday of a date: 0 is Monday and 6 is Sunday.
@@ -99,12 +100,21 @@ fn is_programme_day(year: u32, week: u32, day: u32) -> bool
     is_workweek_day(year, day) && in_season(day) && week_of(year, day) == week
 }
 
-// How many programme days a week has.
-pub fn programme_days(year: u32, week: u32) -> u8
-    ensures is { result ≡ spec.programme_days year week }
+// How many days of the summer are programme days of a week, one day after another.
+fn days_counted(year: u32, week: u32) -> u8
+    ensures is { result ≡ length (filter (spec.programme_day year week) (range_with_len 0 76)) }
     ensures within { result ≤ 76 }
 {
     (0..76)
         .filter(|day| is_programme_day(year, week, *day))
         .count() as u8
+}
+
+// How many programme days a week has.
+#[tactic(auto, using(crate::proofs::Counted::programme_days_counted))]
+pub fn programme_days(year: u32, week: u32) -> u8
+    ensures is { result ≡ spec.programme_days year week }
+    ensures within { result ≤ 76 }
+{
+    days_counted(year, week)
 }

@@ -1,8 +1,6 @@
 -- The cells of an hour together, one more at a time.
-use Rattle.std.proofs.Common.{◌≡◌, ℕ, zero, suc, ◌+◌, ◌-◌, ◌*◌, ◌/◌, ◌<◌, ◌≤◌, List, length, get_or, slice_range, drop, Some, None, Option, sym, ap, ◌∙◌, subst, refl, arith}
+use Rattle.std.proofs.Common.{◌≡◌, ℕ, zero, suc, ◌+◌, ◌-◌, ◌<◌, ◌≤◌, List, length, get_or, slice_range, drop, Some, None, Option, sym, ap, ◌∙◌, subst, refl, arith}
 use native.Mathlib.Numerals.{unary_clauses}
-use Rattle.std.proofs.Math.Nat.{div-le_self}
-use Rattle.std.proofs.lemmas.Nat.{mul-le}
 use Rattle.std.proofs.lemmas.Bool.Decides.{nat_tests}
 use Rattle.std.proofs.lemmas.List.{get_or-take, get_or-drop}
 use Rattle.meter.specs.Cells.{both, held, together}
@@ -54,9 +52,5 @@ unfolding together
 one_more limit cells first k a b e f = simp unary_clauses (sym (ap (both (together limit cells first k)) f ∙ ap (λ o. both o (Some b)) (sym e)))
 
 -- a cell of those of an hour is a cell of the table
-pub of_hour : (cells : List ℕ) (first n k : ℕ) → k < n → get_or (slice_range cells first (first + n)) k 0 ≡ get_or cells (first + k) 0
-of_hour cells first n k l = get_or-take _ (drop first cells) k 0 (omega arith) ∙ get_or-drop first cells k 0
-
--- some cells of an hour come to a number of 32 bits
-pub few_fit : (n i sum : ℕ) → i ≤ 4 → sum ≤ i * (100000000 / n) → sum ≤ 400000000
-few_fit n i sum l s = let m = mul-le i (100000000 / n) 4 100000000 l (div-le_self 100000000 n) in omega arith
+pub of_hour : (cells those : List ℕ) (first n k : ℕ) → those ≡ slice_range cells first (first + n) → k < n → get_or those k 0 ≡ get_or cells (first + k) 0
+of_hour cells those first n k e l = ap (λ cs. get_or cs k 0) e ∙ get_or-take _ (drop first cells) k 0 (omega arith) ∙ get_or-drop first cells k 0

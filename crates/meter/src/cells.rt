@@ -12,6 +12,7 @@ pub(crate) fn hour_at<const N: usize>(cells: &[u32], first: usize) -> Option<u32
 {
     let most = 100_000_000 / N as u32;
     let mut sum = 0;
+    // A `for`: a `sum()` into an `Option` says nothing of where it fails, and so not that what it added until then fits.
     for cell in cells.get(first..first + N)? {
         if *cell > most {
             return None;

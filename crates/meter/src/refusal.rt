@@ -13,6 +13,8 @@ pub enum RecordRefusal {
 }
 
 impl RecordRefusal {
+    // The number that a caller is shown for a refusal.
+    // A method and no `From`: `u32::from(refusal)` would not say that the number shown to a caller is meant.
     pub fn number(self) -> u32
         ensures { result ≡ record_number self }
     {
@@ -32,6 +34,8 @@ pub enum MeterFault {
 }
 
 impl MeterFault {
+    // The number that a caller is shown for a fault.
+    // A method and no `From`: `u32::from(fault)` could as well be the number under which an hour is missing.
     pub fn number(self) -> u32
         ensures { result ≡ meter_number self }
     {

@@ -1,12 +1,13 @@
 -- Sums over measured hours and weeks, as chains come to them and as the tariff has them.
-use Rattle.std.proofs.Common.{◌≡◌, ℕ, ◌+◌, ◌-◌, ◌*◌, ◌≤◌, List, [], ◌∷◌, map, length, get_or, replicate, sum_by, filter, nat_eq, sym, refl, ap, ◌∙◌, ap₂, arith}
+use Rattle.std.proofs.Common.{◌≡◌, ℕ, ◌+◌, ◌-◌, ◌≤◌, List, length, get_or, sum_by, filter, nat_eq, sym, refl, ap, ◌∙◌, ap₂, arith}
 use lib.ListN.{length-map}
-use Rattle.std.proofs.lemmas.List.Sums.{sum_by-cons, sum_by-append, sum_by-le, length-filter, count_by-le-length}
-use Rattle.std.proofs.lemmas.List.Folds.{sum_by-replicate}
+use Rattle.std.proofs.lemmas.List.Sums.{sum_by-le, length-filter, count_by-le-length}
 use Rattle.tariff.specs.Pay.{energy_for, adjustment_for, capacity_for, counted_reduction, counted_sum, charged_of, incentive_of, priced, filled, no_hour, no_week}
 use Rattle.tariff.specs.declared.statement.HourLine.{HourLine}
 use Rattle.tariff.specs.declared.statement.MeasuredHour.{MeasuredHour}
 use Rattle.tariff.specs.declared.statement.WeekLine.{WeekLine}
+use Rattle.tariff.proofs.Pointwise.{sumBy_map}
+use Rattle.tariff.proofs.RecordFilled.{sumBy_filled}
 use Rattle.pay.specs.declared.placed.PlacedHour.{PlacedHour}
 use Rattle.pay.specs.Paying.{measured_list, measured_in_week, hour_lines_of, week_line_in, week_lines_of, totalled, statement_from}
 
@@ -43,10 +44,6 @@ counted_few nominated w hours l =
 
 -- ---- the tariff's own sums
 
-pub sumBy_map : {X Y : Type 0} (f : Y → ℕ) (g : X → Y) (xs : List X) → sum_by (λ x. f (g x)) xs ≡ sum_by f (map g xs)
-sumBy_map f g [] = refl
-sumBy_map f g (x ∷ xs) = sum_by-cons (λ y. f (g y)) x xs ∙ ap (λ n. f (g x) + n) (sumBy_map f g xs) ∙ sym (sum_by-cons f (g x) (map g xs))
-
 pub energy_sum : (hours : List PlacedHour) → sum_by energy_in hours ≡ sum_by (λ l. l.energy) (hour_lines_of hours)
 unfolding hour_lines_of
 energy_sum hours = sumBy_map (λ (m : MeasuredHour). energy_for m.event m.reduction) (λ p. p.measured) hours ∙ sumBy_map (λ (l : HourLine). l.energy) priced (measured_list hours)
@@ -69,20 +66,13 @@ week_line_is nominations days hours k n d count counted capacity a b e g h =
     let at : (k + 1) - 1 ≡ k = omega arith in
     cc (at, h, a, b, e ∙ hours_are (k + 1) hours, g ∙ counted_is n (k + 1) hours)
 
--- entries that are not used add nothing
-pub sum_filled : {X : Type 0} (f : X → ℕ) (z : X) (n : ℕ) (xs : List X) → f z ≡ 0 → sum_by f (filled z n xs) ≡ sum_by f xs
-sum_filled f z n xs e =
-    let m : ℕ = n - length xs in
-    let none : sum_by f (replicate m z) ≡ m * 0 = sum_by-replicate f m z ∙ ap (λ k. m * k) e in
-    sum_by-append f xs (replicate m z) ∙ omega (arith, none)
-
 -- lines and totals together are the statement
 pub totalled_is : (hours : List PlacedHour) (nominations days : List ℕ) (last : ℕ) (ls : List HourLine) (ws : List WeekLine) (paid energy charged : ℕ) → ls ≡ filled no_hour 60 (hour_lines_of hours) → ws ≡ filled no_week 10 (week_lines_of nominations days last hours) → paid ≡ sum_by (λ w. w.capacity) ws → energy ≡ sum_by (λ l. l.energy) (hour_lines_of hours) → charged ≡ charged_of (hour_lines_of hours) → totalled ls ws (paid + energy) charged ≡ statement_from hours nominations days last
 unfolding statement_from incentive_of
 totalled_is hours nominations days last ls ws paid energy charged l w p e c =
     let weeks : List WeekLine = week_lines_of nominations days last hours in
     let capacity : WeekLine → ℕ = λ x. x.capacity in
-    let all : paid ≡ sum_by capacity weeks = p ∙ ap (sum_by capacity) w ∙ sum_filled capacity no_week 10 weeks refl in
+    let all : paid ≡ sum_by capacity weeks = p ∙ ap (sum_by capacity) w ∙ sumBy_filled no_week capacity refl 10 weeks in
     let sum : paid + energy ≡ incentive_of (hour_lines_of hours) weeks = ap₂ ◌+◌ all e in
     ap₂ (λ (hs : List HourLine) (vs : List WeekLine). totalled hs vs (paid + energy) charged) l w
     ∙ ap₂ (λ (m n : ℕ). totalled (filled no_hour 60 (hour_lines_of hours)) (filled no_week 10 weeks) m n) sum c

@@ -24,6 +24,7 @@ impl Summer<'_> {
     }
 
     // The line of the k-th week, counted from 0; zero past the last.
+    #[tactic(auto, using(crate::proofs::Sums::week_line_is))]
     fn week_line(&self, k: usize) -> WeekLine
         requires { k < 10 }
         ensures line { k < self.now.weeks.now.last → result ≡ week_line_in self.now.nominations.now self.now.weeks.now.days self.now.hours.now (k + 1) }

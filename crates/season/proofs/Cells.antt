@@ -76,9 +76,17 @@ table_same s t count sites =
     fields m n xs ys p q = subst (λ k. (a : m ≤ 64) (b : k ≤ 64) (c : length xs ≡ 64) (d : length ys ≡ 64) (e : Blank m xs) (f : Blank k ys) → table m xs a c e ≡ table k ys b d f) p
         (subst (λ zs. (a b : m ≤ 64) (c : length xs ≡ 64) (d : length zs ≡ 64) (e : Blank m xs) (f : Blank m zs) → table m xs a c e ≡ table m zs b d f) q (facts_same m xs))
 
+days_same : (s t : EventTable) → s.days ≡ t.days → s ≡ t
+days_same s t = fields s.days t.days s.summer t.summer
+  where
+    held : (xs : List Day) → length xs ≡ 76 → EventTable
+    held xs summer = record { days = xs; summer = summer }
+
+    fields : (xs ys : List Day) (a : length xs ≡ 76) (b : length ys ≡ 76) → xs ≡ ys → held xs a ≡ held ys b
+    fields xs ys a b p = subst (λ zs. (c : length zs ≡ 76) → held xs a ≡ held zs c) p (λ c. ap (held xs) (ℕ_set _ _ a c)) b
+
 pub same_cells : (s t : Season) → view s ≡ view t → SameCells s t
 same_cells s t e =
-    let days : List Day → EventTable = λ xs. record { days = xs } in
     record {
       year = ap (λ (m : model.Season). m.year) e;
       closed = ap (λ (m : model.Season). m.closed) e;
@@ -86,5 +94,5 @@ same_cells s t e =
       sites = table_same s.sites t.sites
           (count_is s.sites ∙ ap (λ (m : model.Season). length m.sites) e ∙ sym (count_is t.sites))
           (cells_are s.sites ∙ ap (λ (m : model.Season). padded m.sites) e ∙ sym (cells_are t.sites));
-      events = ap (λ (m : model.Season). days m.days) e;
+      events = days_same s.events t.events (ap (λ (m : model.Season). m.days) e);
     }

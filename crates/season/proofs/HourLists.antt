@@ -1,14 +1,13 @@
 -- The hours of standing events as they are listed: one hour more, one day more, and what is known of each hour.
-use Rattle.std.proofs.Common.{◌≡◌, ℕ, zero, suc, ◌+◌, ◌-◌, ◌<◌, ◌≤◌, Bool, true, false, cond, List, [], ◌∷◌, ◌++◌, map, length, drop, set, replicate, sym, refl, ap, ◌∙◌, inl, inr, add-one, arith}
+use Rattle.std.proofs.Common.{◌≡◌, ℕ, zero, suc, ◌+◌, ◌-◌, ◌<◌, ◌≤◌, Bool, true, false, cond, List, [], ◌∷◌, ◌++◌, map, drop, set, replicate, sym, ap, ◌∙◌, inl, inr, add-one, arith}
 use Rattle.std.specs.List.{AllByRecursion, range_with_len}
 use Rattle.std.proofs.lemmas.List.FromFn.{map-range_with_len_more}
-use Rattle.std.proofs.lemmas.List.{append_assoc, append-nil, drop-drop, drop-set-lt, drop-replicate}
+use Rattle.std.proofs.lemmas.List.{append_assoc, drop-drop, drop-set-lt, drop-replicate}
 use Rattle.std.proofs.lemmas.Bool.{cases_eq}
-use Rattle.tariff.specs.Events.{stands, announced, day_hours, day_in, event_hours_before, hours_before, hours_on, standing_before}
+use Rattle.tariff.specs.Events.{stands, day_hours, day_in, event_hours_before, hours_before, hours_on, standing_before}
 use Rattle.tariff.specs.Season as model
 use Rattle.tariff.specs.Sound.{Sound}
 use Rattle.tariff.specs.declared.season.Day.{Day}
-use Rattle.tariff.specs.declared.season.Day.TheVariants.{NoEvent, Standing, Revoked}
 use Rattle.tariff.specs.declared.season.EventHour.{EventHour}
 use Rattle.tariff.proofs.EventHours.{event_hours_more, hours_more, standing_none, standing_more, all_event_hours}
 use Rattle.tariff.proofs.Runs.{standing_fit}
@@ -19,10 +18,7 @@ pub rest_more : {X : Type 0} (xs : List X) (n : ℕ) (v z : X) → drop n xs ≡
 rest_more xs n v z h =
     drop-set-lt (n + 1) xs n v (omega arith) ∙ sym (drop-drop 1 n xs) ∙ ap (drop 1) h ∙ drop-replicate 1 (60 - n) z ∙ ap (λ k. replicate k z) (omega arith)
 
--- a list of hours that rise from a first one, before the first hour and one hour on
-pub listed_none : {X : Type 0} (f : ℕ → X) (xs : List X) (a n : ℕ) → n ≡ 0 → xs ≡ xs ++ map f (range_with_len a n)
-listed_none f xs a n e = rw e (sym (append-nil xs))
-
+-- a list of hours that rise from a first one, one hour on
 pub listed_more : {X : Type 0} (f : ℕ → X) (xs ys : List X) (a h : ℕ) → a ≤ h → ys ≡ xs ++ map f (range_with_len a (h - a)) → ys ++ f h ∷ [] ≡ xs ++ map f (range_with_len a (h + 1 - a))
 listed_more f xs ys a h le e =
     ap (λ zs. zs ++ f h ∷ []) e ∙ append_assoc xs (map f (range_with_len a (h - a))) (f h ∷ [])
@@ -31,11 +27,6 @@ listed_more f xs ys a h le e =
 -- one day more in the list
 pub day_listed : (days : List Day) (d n : ℕ) (xs ys : List EventHour) (x : Day) → n ≡ standing_before days d → xs ≡ event_hours_before days d → x ≡ day_in days d → ys ≡ xs ++ hours_on (n + 1) d x → ys ≡ event_hours_before days (d + 1)
 day_listed days d n xs ys x numbered so held e = cc (event_hours_more days d)
-
--- a count of hours is the length of their list
-pub counted_is : (days : List Day) (d n k : ℕ) → d ≡ n → k ≡ hours_before days d → k ≡ length (event_hours_before days n)
-unfolding hours_before
-counted_is days d n k end e = e ∙ ap (hours_before days) end
 
 hours_least : (days : List Day) (m n : ℕ) → m ≤ n → hours_before days m ≤ hours_before days n
 hours_least days m zero h = let z : m ≡ 0 = omega arith in rw z (omega arith)
@@ -50,12 +41,6 @@ hours_least days m (suc n) h =
 -- there is room for the hours of a day
 pub day_room : (days : List Day) (d : ℕ) → d < 76 → hours_before days 76 ≤ 60 → hours_before days d + day_hours (day_in days d) ≤ 60
 day_room days d lt full = omega (arith, hours_more days d, hours_least days (d + 1) 76 (omega arith))
-
--- a standing event was announced
-pub stood : (x : Day) → stands x ≡ true → announced x ≡ true
-stood NoEvent h = h
-stood (Standing e) h = refl
-stood (Revoked e) h = refl
 
 standing_few : (days : List Day) (n : ℕ) → standing_before days n ≤ n
 standing_few days zero = omega (arith, standing_none days)

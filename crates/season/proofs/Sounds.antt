@@ -1,7 +1,9 @@
 -- Every record stands for a sound season; and what a sound season gives back to a record.
-use Rattle.std.proofs.Common.{◌≡◌, ℕ, ◌+◌, ◌*◌, ◌≤◌, Bool, true, false, not, ◌&&◌, eqb, List, [], ◌∷◌, length, replicate, Result, sym, refl, ap, ◌∙◌, subst, arith, length-take}
+use Rattle.std.proofs.Common.{◌≡◌, ℕ, ◌+◌, ◌*◌, ◌≤◌, Bool, true, false, not, ◌&&◌, eqb, List, [], length, replicate, Result, sym, refl, ap, ◌∙◌, subst, arith, length-take}
+use Rattle.std.specs.Bool.{Decides}
 use Rattle.std.specs.List.{AllByRecursion, list_all}
-use Rattle.std.proofs.lemmas.Bool.{false≢true, and_parts, and_from, eqb-true}
+use Rattle.std.proofs.ByRecursion.{Decides-by_and}
+use Rattle.std.proofs.lemmas.Bool.{and_parts, and_from, eqb-true}
 use Rattle.std.proofs.lemmas.Bool.Decides.{nat_tests}
 use Rattle.tariff.specs.Season as model
 use Rattle.tariff.specs.Calendar.{business, in_season, day_of, minute_of}
@@ -23,24 +25,6 @@ use Rattle.season.specs.declared.events.EventTable.{EventTable}
 use Rattle.season.specs.declared.season.Season.{Season}
 use Rattle.season.specs.declared.sites.SiteTable.{SiteTable}
 
--- a test that each element of a list passes, and the fact that it stands for
-
-passed : {X : Type 0} (p : X → Bool) (P : X → Type 0) → ((x : X) → p x ≡ true → P x) → (xs : List X) → list_all p xs ≡ true → AllByRecursion P xs
-passed p P f [] h = tt
-passed p P f (x ∷ xs) h = (f x (and_parts _ _ h).0, passed p P f xs (and_parts _ _ h).1)
-
-passes : {X : Type 0} (p : X → Bool) (P : X → Type 0) → ((x : X) → P x → p x ≡ true) → (xs : List X) → AllByRecursion P xs → list_all p xs ≡ true
-passes p P f [] h = refl
-passes p P f (x ∷ xs) h = and_from _ _ (f x h.0) (passes p P f xs h.1)
-
-five_parts : (a b c d e : Bool) → (a && (b && (c && (d && e)))) ≡ true → (a ≡ true) × (b ≡ true) × (c ≡ true) × (d ≡ true) × (e ≡ true)
-five_parts true true true true true h = (refl, refl, refl, refl, refl)
-five_parts true true true true false h = absurd (false≢true h)
-five_parts true true true false e h = absurd (false≢true h)
-five_parts true true false d e h = absurd (false≢true h)
-five_parts true false c d e h = absurd (false≢true h)
-five_parts false b c d e h = absurd (false≢true h)
-
 in_days : (day : ℕ) → in_season day ≡ true → (14 ≤ day) × (day ≤ 75)
 in_days day h = grind (arith, nat_tests)
 
@@ -52,10 +36,13 @@ in_time m start h = grind (arith, nat_tests)
 
 fit_of : (year day : ℕ) (e : Event) → is_fit year day e ≡ true → Fit year day e
 fit_of year day e h =
-    let p = five_parts (business year day) (in_season day) (not (hours_outside e.start e.length)) (eqb (day_of e.notice) day) (not (notice_outside e.notice e.start)) h in
-    let d = in_days day p.1 in
-    let l = in_hours e.start e.length p.2 in
-    let t = in_time e.notice e.start p.4 in
+    let p = and_parts (business year day) _ h in
+    let q = and_parts (in_season day) _ p.1 in
+    let r = and_parts (not (hours_outside e.start e.length)) _ q.1 in
+    let s = and_parts (eqb (day_of e.notice) day) _ r.1 in
+    let d = in_days day q.0 in
+    let l = in_hours e.start e.length r.0 in
+    let t = in_time e.notice e.start s.1 in
     record {
       on_business = p.0;
       opens = d.0;
@@ -64,7 +51,7 @@ fit_of year day e h =
       longest = l.1;
       earliest = l.2;
       latest = l.3;
-      same_day = eqb-true (day_of e.notice) day p.3;
+      same_day = eqb-true (day_of e.notice) day s.0;
       three_hours = t.0;
       one_hour = t.1;
     }
@@ -78,31 +65,36 @@ figure_of k kw h = grind (arith, nat_tests)
 figure_from : (k : Kind) (kw : ℕ) → Figure k kw → not (figure_outside k kw) ≡ true
 figure_from k kw f = grind (arith, nat_tests)
 
+figures_decide : (k : Kind) (xs : List ℕ) → Decides (list_all (λ kw. not (figure_outside k kw)) xs) (AllByRecursion (Figure k) xs)
+figures_decide k = Decides-by_and (λ kw. not (figure_outside k kw)) (Figure k) (list_all (λ kw. not (figure_outside k kw))) (λ kw. (figure_of k kw, figure_from k kw)) refl (λ x xs. refl)
+
 whole_of : (x : Site) → is_whole x ≡ true → Whole x
 whole_of x h =
     let p = and_parts (eqb (length x.weeks) 10) (list_all (λ kw. not (figure_outside x.kind kw)) x.weeks && not (figure_outside x.kind x.highest)) h in
     let q = and_parts (list_all (λ kw. not (figure_outside x.kind kw)) x.weeks) (not (figure_outside x.kind x.highest)) p.1 in
-    record { ten = eqb-true (length x.weeks) 10 p.0; figures = passed _ (Figure x.kind) (figure_of x.kind) x.weeks q.0; top = figure_of x.kind x.highest q.1 }
+    record { ten = eqb-true (length x.weeks) 10 p.0; figures = (figures_decide x.kind x.weeks).0 q.0; top = figure_of x.kind x.highest q.1 }
 
 whole_from : (x : Site) → Whole x → is_whole x ≡ true
 whole_from x w =
-    and_from _ _ (grind (arith, nat_tests)) (and_from _ _ (passes _ (Figure x.kind) (figure_from x.kind) x.weeks w.figures) (figure_from x.kind x.highest w.top))
+    and_from _ _ (grind (arith, nat_tests)) (and_from _ _ ((figures_decide x.kind x.weeks).1 w.figures) (figure_from x.kind x.highest w.top))
+
+sites_decide : (xs : List Site) → Decides (list_all is_whole xs) (AllByRecursion Whole xs)
+sites_decide = Decides-by_and is_whole Whole (list_all is_whole) (λ x. (whole_of x, whole_from x)) refl (λ x xs. refl)
 
 pub sound_of : (s : Season) → Sound (view s)
 sound_of s = record {
-  summer = s.summer;
+  summer = s.events.summer;
   events = λ d h. fit_of s.year d (event_of (model.day_at (view s) d)) (s.fit d h);
   weekly = s.weekly;
   overall = s.full;
   few = omega (arith, length-take s.sites.count s.sites.sites, s.sites.room);
-  whole = passed is_whole Whole whole_of (view s).sites s.whole;
+  whole = (sites_decide (view s).sites).0 s.whole;
 }
 
 -- the facts of a record, by their names
 abbrev Facts : ℕ → SiteTable → EventTable → Type 0
 Facts year sites events = record {
   whole : AllWhole (listed sites);
-  summer : length events.days ≡ 76;
   fit : AllFit year events.days;
   weekly : WeeksHold year events.days;
   full : hours_before events.days 76 ≤ 60;
@@ -112,8 +104,7 @@ facts : (year clock : ℕ) (closed : Bool) (sites : SiteTable) (events : EventTa
 facts year clock closed sites events a =
     let fit : AllFit year events.days = λ d h. fit_from year d (event_of (model.day_at (view_of year closed clock sites events) d)) (a.events d h) in
     record {
-      whole = passes is_whole Whole whole_from (listed sites) a.whole;
-      summer = a.summer;
+      whole = (sites_decide (listed sites)).1 a.whole;
       fit = fit;
       weekly = a.weekly;
       full = a.overall;

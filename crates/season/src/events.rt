@@ -49,6 +49,7 @@ fn day_hours(day: Day) -> u8
 #[derive(Clone, Copy, PartialEq, Eq)]
 pub struct EventTable {
     pub days: [Day; 76],
+    ghost summer: { length days ≡ 76 },
 }
 
 impl EventTable {

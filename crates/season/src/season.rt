@@ -1,5 +1,5 @@
 // The record of a season.
-ghost use Rattle.std.specs.Prelude.{◌≡◌, ◌≤◌, length};
+ghost use Rattle.std.specs.Prelude.{◌≤◌};
 ghost use Rattle.tariff.specs.Events.{hours_before};
 ghost use Rattle.season.specs.Tables.{listed};
 ghost use Rattle.season.specs.Tests.{AllFit, AllWhole, WeeksHold};
@@ -25,7 +25,6 @@ pub struct Season {
     sites: SiteTable,
     events: EventTable,
     ghost whole: { AllWhole (listed sites) },
-    ghost summer: { length events.days ≡ 76 },
     ghost fit: { AllFit year events.days },
     ghost weekly: { WeeksHold year events.days },
     ghost full: { hours_before events.days 76 ≤ 60 },

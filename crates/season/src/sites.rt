@@ -48,6 +48,7 @@ impl SiteTable {
     ghost use Rattle.season.specs.Tables.{listed};
 
     // A table with no site.
+    #[tactic(auto, unfolding(crate::specs::Blank::zeros, crate::specs::Blank::blanks))]
     pub(crate) fn new() -> SiteTable
         ensures { result.count ≡ 0 }
     {
@@ -87,6 +88,7 @@ impl SiteTable {
     }
 
     // One site more, with one figure for all weeks.
+    #[tactic(auto, using(std::proofs::lemmas::List::take_more_set))]
     pub(crate) fn enrol(&mut self, kind: Kind, kw: u32)
         requires { self.old.count < 64 }
         ensures list { listed self.new ≡ listed self.old ++ (enrolled_site kind kw ∷ []) }

@@ -8,7 +8,7 @@ use Rattle.std.proofs.lemmas.Bool.{cases_Bool, cases_eq}
 use Rattle.std.proofs.lemmas.Bool.Decides.{nat_tests}
 use Rattle.tariff.specs.Calendar.{in_week}
 use Rattle.tariff.specs.Counting.{total}
-use Rattle.tariff.specs.Events.{stands, announced, event_of, day_in, day_hours, announced_before, standing_before, event_number, event_hour, hours_on, event_hours_before, hours_before, week_hours_before, among}
+use Rattle.tariff.specs.Events.{stands, event_of, day_in, day_hours, standing_before, event_number, event_hour, hours_on, event_hours_before, hours_before, week_hours_before, among}
 use Rattle.tariff.specs.Season.{Season, day_at, in_event}
 use Rattle.tariff.specs.declared.season.EventHour.{EventHour}
 use Rattle.tariff.specs.declared.season.Day.{Day}
@@ -17,14 +17,6 @@ use Rattle.tariff.proofs.Ranking.{all_counting}
 use Rattle.tariff.proofs.Totals.{count_none, count_more}
 
 -- ---- one day more in a count
-
-pub announced_none : (days : List Day) → announced_before days 0 ≡ 0
-unfolding announced_before
-announced_none days = count_none (λ d. announced (day_in days d))
-
-pub announced_more : (days : List Day) (n : ℕ) → announced_before days (n + 1) ≡ announced_before days n + cond (announced (day_in days n)) 1 0
-unfolding announced_before
-announced_more days n = count_more (λ d. announced (day_in days d)) n
 
 pub standing_none : (days : List Day) → standing_before days 0 ≡ 0
 unfolding standing_before

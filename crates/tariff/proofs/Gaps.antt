@@ -1,7 +1,8 @@
 -- Two tables with the same gaps are refused alike.
 use Rattle.std.proofs.Common.{◌≡◌, ℕ, ◌<◌, Bool, true, false, cond, not, reverse, length, Some, None, Err, Option, refl, ap, arith, Ok}
 use Rattle.std.specs.List.{range_with_len}
-use Rattle.std.proofs.ByRecursion.{All-weaker}
+use Rattle.std.proofs.ByRecursion.{All-weaker, all_shuffled}
+use Rattle.std.proofs.lemmas.List.Sorted.{IsPermutation-reverse}
 use Rattle.tariff.specs.Comparison.{comparison_days}
 use Rattle.tariff.specs.Events.{event_number}
 use Rattle.tariff.specs.Faults.{hour_fault, day_fault, comparison_fault, fault_over}
@@ -14,7 +15,7 @@ use Rattle.tariff.specs.declared.fault.Use.{Use}
 use Rattle.tariff.specs.declared.fault.Use.TheVariants.{Comparison, EventDay}
 use Rattle.tariff.specs.declared.statement.Statement.{Statement}
 use Rattle.tariff.specs.declared.statement.StatementRefusal.{StatementRefusal}
-use Rattle.tariff.proofs.Pointwise.{all_reversed, first_same}
+use Rattle.tariff.proofs.Pointwise.{first_same}
 use Rattle.tariff.proofs.Ranking.{all_counting}
 use Rattle.tariff.proofs.Baselines.{Free, comparison_free}
 
@@ -33,7 +34,7 @@ module _ (s : Season) (t u : Table) (gaps : SameGaps t u) where
   unfolding comparison_fault
   comparison_alike d l =
       first_same (day_fault t Comparison) (day_fault u Comparison) (reverse (comparison_days s d))
-      (all_reversed _ _ (All-weaker (Free s) _ (λ k f. day_alike Comparison k f.0) _ (comparison_free s d l)))
+      (all_shuffled _ _ _ (IsPermutation-reverse _) (All-weaker (Free s) _ (λ k f. day_alike Comparison k f.0) _ (comparison_free s d l)))
 
   event_alike : (d : ℕ) → d < 76 → event_fault s t d ≡ event_fault s u d
   unfolding event_fault fault_over

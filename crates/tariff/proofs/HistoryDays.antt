@@ -6,7 +6,7 @@ use Rattle.std.proofs.lemmas.List.Sums.{sum_by_push, fold_push}
 use Rattle.std.proofs.lemmas.Bool.{cases_eq, eq-eqb, ne_eqb}
 use Rattle.std.proofs.lemmas.Bool.Decides.{nat_tests}
 use Rattle.tariff.specs.Calendar.{day_of}
-use Rattle.tariff.specs.Events.{announced, stands, event_of, day_in, announced_before, standing_before, hours_before}
+use Rattle.tariff.specs.Events.{announced, stands, event_of, day_in, day_hours, announced_before, standing_before, hours_before}
 use Rattle.tariff.specs.Season.{Season, opened, day_at, standing}
 use Rattle.tariff.specs.Calls.{announce_checks, revoke_checks, after_taken, with_event, without_event, run}
 use Rattle.tariff.specs.History.{Entry, History, history, taken, accepted, accepted_announcement, accepted_revocation, length_asked, length_replied, clock_after, accepted_announcements, accepted_revocations, announced_hours, revoked_hours, last_moment}
@@ -18,7 +18,9 @@ use Rattle.tariff.specs.declared.call.Answer.{Answer}
 use Rattle.tariff.specs.declared.call.Answer.TheVariants.{Revoked as RevokedHours}
 use Rattle.tariff.specs.declared.call.SeasonRefusal.{SeasonRefusal}
 use Rattle.tariff.proofs.HistoryCalls.{Passed, Answered, refused, after_calls}
-use Rattle.tariff.proofs.HistoryTotals.{day_length, one_if, announced_over, standing_over, hours_over, over_set, over_none, day_none}
+use Rattle.tariff.proofs.EventHours.{hours_total}
+use Rattle.tariff.proofs.HistoryTotals.{one_if, announced_over, standing_over, over_set, over_none}
+use Rattle.tariff.proofs.Pointwise.{replicate_at}
 
 -- ---- whether a day has been announced in a history
 
@@ -96,9 +98,9 @@ opened_days old year = record {
   summer = length-replicate 76 NoEvent;
   counted = announced_over (replicate 76 NoEvent) 76 ∙ over_none (one_if announced) 76 76 refl;
   events = omega (arith, standing_over (replicate 76 NoEvent) 76 ∙ over_none (one_if stands) 76 76 refl);
-  hours = omega (arith, hours_over (replicate 76 NoEvent) 76 ∙ over_none day_length 76 76 refl);
+  hours = omega (arith, hours_total (replicate 76 NoEvent) 76 ∙ over_none day_hours 76 76 refl);
   time = refl;
-  told = λ d. day_none 76 d;
+  told = λ d. ap announced (replicate_at NoEvent 76 d);
   late = λ l. let z : ⊥ = omega arith in absurd z;
 }
 
@@ -124,12 +126,12 @@ same_days clock days h e g no-announcement no-revocation same_clock same_day =
     }
 
 -- what a day counts for where nothing was announced, and where an event stands
-unannounced : (x : Day) → announced x ≡ false → (one_if announced x ≡ 0) × (one_if stands x ≡ 0) × (day_length x ≡ 0)
+unannounced : (x : Day) → announced x ≡ false → (one_if announced x ≡ 0) × (one_if stands x ≡ 0) × (day_hours x ≡ 0)
 unannounced NoEvent e = (refl, refl, refl)
 unannounced (Standing x) e = let z : ◌≡◌ {A = ℕ} 0 1 = cc in let n : ⊥ = omega arith in absurd n
 unannounced (Revoked x) e = let z : ◌≡◌ {A = ℕ} 0 1 = cc in let n : ⊥ = omega arith in absurd n
 
-still_stands : (x : Day) → stands x ≡ true → (announced x ≡ true) × (one_if announced x ≡ 1) × (one_if stands x ≡ 1) × (day_length x ≡ (event_of x).length)
+still_stands : (x : Day) → stands x ≡ true → (announced x ≡ true) × (one_if announced x ≡ 1) × (one_if stands x ≡ 1) × (day_hours x ≡ (event_of x).length)
 still_stands NoEvent e = let z : ◌≡◌ {A = ℕ} 0 1 = cc in let n : ⊥ = omega arith in absurd n
 still_stands (Standing x) e = (refl, refl, refl, refl)
 still_stands (Revoked x) e = let z : ◌≡◌ {A = ℕ} 0 1 = cc in let n : ⊥ = omega arith in absurd n
@@ -149,7 +151,7 @@ announced_days s h m start len a g p =
       summer = length-set s.days (day_of m) day ∙ g.summer;
       counted = omega (arith, announced_over new 76, announced_over s.days 76, over_set (one_if announced) s.days (day_of m) 76 day l inside, u.0, announcements_push h e, g.counted);
       events = omega (arith, standing_over new 76, standing_over s.days 76, over_set (one_if stands) s.days (day_of m) 76 day l inside, u.1, announcements_push h e, revocations_push h e, g.events);
-      hours = omega (arith, hours_over new 76, hours_over s.days 76, over_set day_length s.days (day_of m) 76 day l inside, u.2, announced_hours_push h e, revoked_hours_push h e, g.hours);
+      hours = omega (arith, hours_total new 76, hours_total s.days 76, over_set day_hours s.days (day_of m) 76 day l inside, u.2, announced_hours_push h e, revoked_hours_push h e, g.hours);
       time = sym (last_moment_push h e);
       told = λ d. elim (cases_eq d (day_of m)) [
         | inl q ↦ rw (announced_in_push h e d, q, get_or-set_same s.days (day_of m) day NoEvent l, eq-eqb (day_of m) (day_of m) refl)
@@ -174,7 +176,7 @@ revoked_days s h m g p =
       summer = length-set s.days (day_of m) day ∙ g.summer;
       counted = omega (arith, announced_over new 76, announced_over s.days 76, over_set (one_if announced) s.days (day_of m) 76 day l inside, u.1, announcements_push h e, g.counted);
       events = omega (arith, standing_over new 76, standing_over s.days 76, over_set (one_if stands) s.days (day_of m) 76 day l inside, u.2, announcements_push h e, revocations_push h e, g.events);
-      hours = omega (arith, hours_over new 76, hours_over s.days 76, over_set day_length s.days (day_of m) 76 day l inside, u.3, announced_hours_push h e, revoked_hours_push h e, g.hours);
+      hours = omega (arith, hours_total new 76, hours_total s.days 76, over_set day_hours s.days (day_of m) 76 day l inside, u.3, announced_hours_push h e, revoked_hours_push h e, g.hours);
       time = sym (last_moment_push h e);
       told = λ d. elim (cases_eq d (day_of m)) [
         | inl q ↦ rw (announced_in_push h e d, q, get_or-set_same s.days (day_of m) day NoEvent l) (sym u.0 ∙ g.told (day_of m))

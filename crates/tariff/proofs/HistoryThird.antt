@@ -1,7 +1,7 @@
 -- From the third accepted announcement on, no site's highest figure rises.
 use Rattle.std.proofs.Common.{◌≡◌, ℕ, ◌≤◌, Bool, true, false, cond, ◌&&◌, [], ◌∷◌, ◌++◌, Ok, Err, Result, refl, ap, ◌∙◌, inl, inr, arith}
 use native.Mathlib.Nat.{max-eq_left}
-use Rattle.std.proofs.lemmas.Bool.{cases_eq, eq-eqb, ne_eqb, false≢true}
+use Rattle.std.proofs.lemmas.Bool.{cases_eq, cond_both, eq-eqb, ne_eqb, false≢true}
 use Rattle.std.proofs.lemmas.Bool.Decides.{nat_tests}
 use Rattle.tariff.specs.Season.{Season, site_at, announcements}
 use Rattle.tariff.specs.Calls.{enrol_checks, nominate_checks, after_taken}
@@ -15,10 +15,6 @@ use Rattle.tariff.proofs.HistoryCalls.{Passed, Answered, entry, refused, of_repl
 use Rattle.tariff.proofs.HistoryDays.{SeasonDaysAgree, announcements_push, refused_days, accepted_days}
 use Rattle.tariff.proofs.HistorySites.{SeasonSitesAgree, highest_push, refused_sites, accepted_sites}
 
-both_zero : (b : Bool) → ◌≡◌ {A = ℕ} (cond b 0 0) 0
-both_zero true = refl
-both_zero false = refl
-
 not_accepted : (r : Result Answer SeasonRefusal) → (accepted r && false) ≡ true → ⊥
 not_accepted (Ok a) q = false≢true q
 not_accepted (Err x) q = false≢true q
@@ -30,7 +26,7 @@ announcement_figure i e q = at e.call e.reply q
     at : (c : Call) (r : Result Answer SeasonRefusal) → (accepted r && is_announcement c) ≡ true → figure_for i (record { call = c; reply = r }) ≡ 0
     at (Enrol m k kw) r q = absurd (not_accepted r q)
     at (Nominate m j w kw) r q = absurd (not_accepted r q)
-    at (Announce m start len) r q = both_zero _
+    at (Announce m start len) r q = cond_both _ 0 0 (λ k. k ≡ 0) (λ _. refl) (λ _. refl)
     at (Revoke m) r q = absurd (not_accepted r q)
     at Close r q = absurd (not_accepted r q)
 

@@ -1,17 +1,13 @@
 -- Totals of the days of a summer, of which one day is written anew.
-use Rattle.std.proofs.Common.{◌≡◌, ℕ, zero, suc, ◌+◌, ◌<◌, Bool, false, cond, List, length, set, replicate, refl, ap, ◌∙◌, ap₂, inl, inr, arith, length-append, get_or-set_other, get_or-set_same}
-use Rattle.std.proofs.lemmas.List.FromFn.{length-map-range_with_len}
+use Rattle.std.proofs.Common.{◌≡◌, ℕ, zero, suc, ◌+◌, ◌<◌, Bool, cond, List, length, set, replicate, refl, ap, ◌∙◌, inl, inr, arith, get_or-set_other, get_or-set_same}
 use Rattle.std.proofs.lemmas.Bool.{cases_eq}
 use Rattle.tariff.specs.Counting.{count, total}
-use Rattle.tariff.specs.Events.{announced, stands, day_in, announced_before, standing_before, event_hours_before, event_number, event_hour, hours_on, hours_before}
+use Rattle.tariff.specs.Events.{announced, stands, day_in, announced_before, standing_before}
 use Rattle.tariff.specs.declared.season.Day.{Day}
-use Rattle.tariff.specs.declared.season.Day.TheVariants.{NoEvent, Standing, Revoked}
-
--- the hours of a day's standing event
-abbrev pub day_length : Day → ℕ
-day_length NoEvent = 0
-day_length (Standing e) = e.length
-day_length (Revoked e) = 0
+use Rattle.tariff.specs.declared.season.Day.TheVariants.{NoEvent}
+use Rattle.tariff.proofs.Pointwise.{replicate_at}
+use Rattle.tariff.proofs.Summing.{total_same}
+use Rattle.tariff.proofs.Totals.{total_none}
 
 -- a total over the days of a summer
 abbrev pub over : (Day → ℕ) → List Day → ℕ → ℕ
@@ -20,7 +16,7 @@ over f days n = total (λ d. f (day_in days d)) n
 abbrev pub one_if : (Day → Bool) → Day → ℕ
 one_if p day = cond (p day) 1 0
 
-count_total : (p : ℕ → Bool) (n : ℕ) → count p n ≡ total (λ d. cond (p d) 1 0) n
+pub count_total : (p : ℕ → Bool) (n : ℕ) → count p n ≡ total (λ d. cond (p d) 1 0) n
 unfolding count total
 count_total p zero = refl
 count_total p (suc n) = ap (λ k. k + cond (p n) 1 0) (count_total p n)
@@ -33,24 +29,7 @@ pub standing_over : (days : List Day) (n : ℕ) → standing_before days n ≡ o
 unfolding standing_before
 standing_over days n = count_total (λ d. stands (day_in days d)) n
 
-length_hours_on : (k d : ℕ) (day : Day) → length (hours_on k d day) ≡ day_length day
-length_hours_on k d NoEvent = refl
-length_hours_on k d (Standing e) = length-map-range_with_len (event_hour k d) e.start e.length
-length_hours_on k d (Revoked e) = refl
-
-pub hours_over : (days : List Day) (n : ℕ) → hours_before days n ≡ over day_length days n
-unfolding hours_before event_hours_before total
-hours_over days zero = refl
-hours_over days (suc n) =
-    length-append (event_hours_before days n) (hours_on (event_number days n) n (day_in days n))
-    ∙ ap₂ ◌+◌ (hours_over days n) (length_hours_on (event_number days n) n (day_in days n))
-
--- two totals that agree everywhere, and two that agree everywhere but at one place
-total_same : (f g : ℕ → ℕ) (n : ℕ) → ((d : ℕ) → d < n → f d ≡ g d) → total f n ≡ total g n
-unfolding total
-total_same f g zero h = refl
-total_same f g (suc n) h = omega (arith, total_same f g n (λ d l. h d (omega arith)), h n (omega arith))
-
+-- two totals that agree everywhere but at one place
 total_but_one : (f g : ℕ → ℕ) (k n : ℕ) → k < n → ((d : ℕ) → (d ≡ k → ⊥) → f d ≡ g d) → total f n + g k ≡ total g n + f k
 unfolding total
 total_but_one f g k zero l h = let z : ⊥ = omega arith in absurd z
@@ -71,15 +50,5 @@ module _ (f : Day → ℕ) (days : List Day) (k n : ℕ) (day : Day) (in' : k < 
       let own : f (day_in (set days k day) k) ≡ f day = ap f (get_or-set_same days k day NoEvent in') in
       omega (arith, gain, own)
 
-no_event : (n d : ℕ) → day_in (replicate n NoEvent) d ≡ NoEvent
-no_event zero d = refl
-no_event (suc n) zero = refl
-no_event (suc n) (suc d) = no_event n d
-
 pub over_none : (f : Day → ℕ) (k n : ℕ) → f NoEvent ≡ 0 → over f (replicate k NoEvent) n ≡ 0
-unfolding total
-over_none f k zero h = refl
-over_none f k (suc n) h = omega (arith, over_none f k n h, ap f (no_event k n), h)
-
-pub day_none : (n d : ℕ) → announced (day_in (replicate n NoEvent) d) ≡ false
-day_none n d = ap announced (no_event n d)
+over_none f k n h = total_none (λ d. f (day_in (replicate k NoEvent) d)) n (λ d. ap f (replicate_at NoEvent k d) ∙ h)

@@ -1,5 +1,5 @@
 -- Paying: reductions no lower, with shortfalls no higher and all else equal, raise no adjustment charged and lower no net.
-use Rattle.std.proofs.Common.{◌≡◌, ℕ, zero, suc, ◌/◌, ◌≤◌, Bool, true, false, cond, eqb, List, map, length, sym, refl, ap, le_refl, mul-le-mul_right, mul-le-mul_left, div-mul-le_self, arith}
+use Rattle.std.proofs.Common.{◌≡◌, ℕ, zero, suc, ◌*◌, ◌/◌, ◌≤◌, List, map, length, sym, refl, ap, le_refl, mul-le-mul_right, mul-le-mul_left, div-mul-le_self, arith}
 use native.Mathlib.Nat.{div-zero}
 use Rattle.std.specs.List.{range_with_len, AllZip}
 use Rattle.std.proofs.lemmas.Nat.{le-div}
@@ -19,10 +19,6 @@ use Rattle.tariff.proofs.Ranking.{all_counting}
 
 -- ---- rates
 
-if_le : (b : Bool) (k l m n : ℕ) → k ≤ l → m ≤ n → cond b k m ≤ cond b l n
-if_le true k l m n p q = p
-if_le false k l m n p q = q
-
 div_le : (m n k : ℕ) → m ≤ n → m / k ≤ n / k
 div_le m n zero h = omega (arith, div-zero m, div-zero n)
 div_le m n (suc k) h = le-div (m / suc k) n (suc k) (omega arith) (omega (arith, div-mul-le_self m (suc k)))
@@ -35,7 +31,8 @@ energy_le e m n h = grind (arith, nat_tests)
 
 capacity_le : (f hours m n days : ℕ) → m ≤ n → capacity_for f hours m days ≤ capacity_for f hours n days
 capacity_le f hours m n days h =
-    if_le (eqb hours 0) _ _ _ _ (le_refl _) (div_le _ _ _ (mul-le-mul_right days (mul-le-mul_left _ h)))
+    let paid = div_le (325 * m * days) (325 * n * days) (5 * hours) (mul-le-mul_right days (mul-le-mul_left _ h)) in
+    grind (arith, nat_tests)
 
 -- ---- lines
 

@@ -1,32 +1,31 @@
 -- Lists alike place by place, and what functions that agree on a list's elements make of it.
-use Rattle.std.proofs.Common.{◌≡◌, ℕ, zero, suc, ◌+◌, ◌-◌, ◌<◌, ◌≤◌, Bool, List, [], ◌∷◌, ◌++◌, map, reverse, length, get_or, set, replicate, sum_by, filter, Option, sym, refl, ap, ◌∙◌, ap₂, inl, inr, append_assoc, arith, length-append}
-use mathlib.Core.List.{reverse_aux}
-use Rattle.std.specs.List.{AllZip, AllByRecursion}
+use Rattle.std.proofs.Common.{◌≡◌, ℕ, zero, suc, ◌+◌, ◌-◌, ◌≤◌, Bool, List, [], ◌∷◌, ◌++◌, map, length, get_or, replicate, sum_by, filter, Option, sym, refl, ap, ◌∙◌, ap₂, inl, inr, arith}
+use mathlib.Core.List.{map-map}
+use Rattle.std.specs.List.{AllZip, AllByRecursion, sum}
 use Rattle.std.proofs.lemmas.List.Elements.{length_all_zip}
-use Rattle.std.proofs.lemmas.List.{set_at}
-use Rattle.std.proofs.lemmas.List.Sums.{sum_by-cons}
+use Rattle.std.proofs.lemmas.List.Sums.{sum_by-cons, sum-map}
 use Rattle.std.proofs.lemmas.Bool.{cases_Bool}
 use Rattle.tariff.specs.Faults.{first_some}
 use Rattle.tariff.specs.Pay.{filled}
 
--- ---- elements
+-- ---- one element again and again
 
-pub all_reversed : {X : Type 0} (P : X → Type 0) (xs : List X) → AllByRecursion P xs → AllByRecursion P (reverse xs)
-all_reversed {X} P xs h = onto xs [] h tt
-  where
-    onto : (ys zs : List X) → AllByRecursion P ys → AllByRecursion P zs → AllByRecursion P (reverse_aux ys zs)
-    onto [] zs h k = k
-    onto (y ∷ ys) zs h k = onto ys (y ∷ zs) h.1 (h.0, k)
+pub replicate_at : {X : Type 0} (z : X) (n k : ℕ) → get_or (replicate n z) k z ≡ z
+replicate_at z zero k = refl
+replicate_at z (suc n) zero = refl
+replicate_at z (suc n) (suc k) = replicate_at z n k
 
 -- ---- functions that agree
-
-pub sumBy_same : {X : Type 0} (f g : X → ℕ) (xs : List X) → AllByRecursion (λ x. f x ≡ g x) xs → sum_by f xs ≡ sum_by g xs
-sumBy_same f g [] h = refl
-sumBy_same f g (x ∷ xs) h = sum_by-cons f x xs ∙ ap₂ ◌+◌ h.0 (sumBy_same f g xs h.1) ∙ sym (sum_by-cons g x xs)
 
 pub map_same : {A X : Type 0} (f g : A → X) (xs : List A) → AllByRecursion (λ a. f a ≡ g a) xs → map f xs ≡ map g xs
 map_same f g [] h = refl
 map_same f g (x ∷ xs) h = ap₂ ◌∷◌ h.0 (map_same f g xs h.1)
+
+pub sumBy_same : {X : Type 0} (f g : X → ℕ) (xs : List X) → AllByRecursion (λ x. f x ≡ g x) xs → sum_by f xs ≡ sum_by g xs
+sumBy_same f g xs h = sym (sum-map f xs) ∙ ap sum (map_same f g xs h) ∙ sum-map g xs
+
+pub sumBy_map : {X Y : Type 0} (f : Y → ℕ) (g : X → Y) (xs : List X) → sum_by (λ x. f (g x)) xs ≡ sum_by f (map g xs)
+sumBy_map f g xs = sym (sum-map (λ x. f (g x)) xs) ∙ ap sum (sym (map-map f g xs)) ∙ sum-map f (map g xs)
 
 pub first_same : {A X : Type 0} (f g : A → Option X) (xs : List A) → AllByRecursion (λ a. f a ≡ g a) xs → first_some f xs ≡ first_some g xs
 unfolding first_some
@@ -92,11 +91,3 @@ each_mapped R S f over [] [] h = tt
 each_mapped R S f over [] (y ∷ ys) h = absurd h
 each_mapped R S f over (x ∷ xs) [] h = absurd h
 each_mapped R S f over (x ∷ xs) (y ∷ ys) h = (over x y h.0, each_mapped R S f over xs ys h.1)
-
--- a filled list with one entry more that is used
-pub filled_more : {A : Type 0} (z : A) (n i : ℕ) (xs : List A) (y : A) → length xs ≡ i → i < n → set (filled z n xs) i y ≡ filled z n (xs ++ y ∷ [])
-filled_more z n i xs y e h =
-    let m : ℕ = n - length xs - 1 in
-    let one : n - length xs ≡ suc m = omega arith in
-    let less : n - length (xs ++ y ∷ []) ≡ m = omega (arith, length-append xs (y ∷ [])) in
-    ap (λ k. set (xs ++ replicate k z) i y) one ∙ set_at xs z (replicate m z) y i e ∙ sym (append_assoc xs (y ∷ []) (replicate m z)) ∙ ap (λ k. (xs ++ y ∷ []) ++ replicate k z) (sym less)

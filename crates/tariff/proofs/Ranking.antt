@@ -1,8 +1,7 @@
--- A ranking: what it holds, how long it is, and its first few.
-use Rattle.std.proofs.Common.{◌≡◌, ℕ, zero, suc, ◌+◌, ◌<◌, ◌≤◌, true, false, cond, leb, ◌⊎◌, List, [], ◌∷◌, length, take, sym, refl, ap, ◌∙◌, inl, inr, arith}
+-- A ranking: what it holds, and how long it is.
+use Rattle.std.proofs.Common.{◌≡◌, ℕ, zero, suc, ◌+◌, ◌<◌, ◌≤◌, true, false, leb, ◌⊎◌, List, [], ◌∷◌, length, refl, ap, ◌∙◌, inl, inr, arith}
 use Rattle.std.specs.List.{range_with_len, AllByRecursion}
-use Rattle.std.proofs.lemmas.List.{take-take}
-use Rattle.std.proofs.lemmas.Bool.{le-leb, lt-leb, cases_eq, cond-true, cond-false, cond_both}
+use Rattle.std.proofs.lemmas.Bool.{cases_eq, cond_both}
 use Rattle.tariff.specs.Highest.{ranked, ranked_in}
 
 pub all_counting : (P : ℕ → Type 0) (a n : ℕ) → ((k : ℕ) → a ≤ k → k < a + n → P k) → AllByRecursion P (range_with_len a n)
@@ -24,18 +23,6 @@ all_in P p [] h i Q use-it = absurd i
 all_in P p (x ∷ xs) h i Q use-it = elim i [ inl e ↦ use-it x e h.0 | inr j ↦ all_in P p xs h.1 j Q use-it ]
 
 module _ (f : ℕ → ℕ) (x : ℕ) where
-  pub in_front : (y : ℕ) (ys : List ℕ) → f y ≤ f x → ranked_in f x (y ∷ ys) ≡ x ∷ y ∷ ys
-  unfolding ranked_in
-  in_front y ys h = cond-true (leb (f y) (f x)) _ _ (le-leb (f y) (f x) h)
-
-  pub behind : (y : ℕ) (ys : List ℕ) → f x < f y → ranked_in f x (y ∷ ys) ≡ y ∷ ranked_in f x ys
-  unfolding ranked_in
-  behind y ys h = cond-false (leb (f y) (f x)) _ _ (lt-leb (f y) (f x) h)
-
-  pub in_last : ranked_in f x [] ≡ x ∷ []
-  unfolding ranked_in
-  in_last = refl
-
   -- either way, as a rule on the list
   pub by_way : (P : List ℕ → Type 0) (y : ℕ) (ys : List ℕ) → (leb (f y) (f x) ≡ true → P (x ∷ y ∷ ys)) → (leb (f y) (f x) ≡ false → P (y ∷ ranked_in f x ys)) → P (ranked_in f x (y ∷ ys))
   unfolding ranked_in
@@ -58,30 +45,10 @@ module _ (f : ℕ → ℕ) (x : ℕ) where
       ])
 
   pub length_ranked_in : (ys : List ℕ) → length (ranked_in f x ys) ≡ suc (length ys)
-  length_ranked_in [] = ap length in_last
+  unfolding ranked_in
+  length_ranked_in [] = refl
   length_ranked_in (y ∷ ys) =
       by_way (λ zs. length zs ≡ suc (suc (length ys))) y ys (λ _. refl) (λ _. ap suc (length_ranked_in ys))
-
-  take_cons : (n y : ℕ) (ys : List ℕ) → take n (y ∷ ys) ≡ take n (y ∷ take n ys)
-  take_cons zero y ys = refl
-  take_cons (suc n) y ys = ap (λ zs. y ∷ zs) (sym (take-take n (suc n) ys (omega arith)))
-
-  -- what is past the first n moves nothing among them
-  pub take_ranked_in : (n : ℕ) (ys : List ℕ) → take n (ranked_in f x ys) ≡ take n (ranked_in f x (take n ys))
-  unfolding ranked_in
-  take_ranked_in zero ys = refl
-  take_ranked_in (suc n) [] = refl
-  take_ranked_in (suc n) (y ∷ ys) =
-      elim (leb (f y) (f x)) as (λ b. take (suc n) (cond b (x ∷ y ∷ ys) (y ∷ ranked_in f x ys)) ≡ take (suc n) (cond b (x ∷ y ∷ take n ys) (y ∷ ranked_in f x (take n ys))))
-      [ true ↦ ap (λ zs. x ∷ zs) (take_cons n y ys) | false ↦ ap (λ zs. y ∷ zs) (take_ranked_in n ys) ]
-
-pub ranked_cons : (f : ℕ → ℕ) (x : ℕ) (xs : List ℕ) → ranked f (x ∷ xs) ≡ ranked_in f x (ranked f xs)
-unfolding ranked
-ranked_cons f x xs = refl
-
-pub ranked_none : (f : ℕ → ℕ) → ranked f [] ≡ []
-unfolding ranked
-ranked_none f = refl
 
 pub all_ranked : (P : ℕ → Type 0) (f : ℕ → ℕ) (xs : List ℕ) → AllByRecursion P xs → AllByRecursion P (ranked f xs)
 unfolding ranked
@@ -95,5 +62,6 @@ in_ranked f p (x ∷ xs) i =
     in_ranked_in f x p (ranked f xs) (elim i [ inl e ↦ inl e | inr j ↦ inr (in_ranked f p xs j) ])
 
 pub length_ranked : (f : ℕ → ℕ) (xs : List ℕ) → length (ranked f xs) ≡ length xs
-length_ranked f [] = ap length (ranked_none f)
-length_ranked f (x ∷ xs) = ap length (ranked_cons f x xs) ∙ length_ranked_in f x (ranked f xs) ∙ ap suc (length_ranked f xs)
+unfolding ranked
+length_ranked f [] = refl
+length_ranked f (x ∷ xs) = length_ranked_in f x (ranked f xs) ∙ ap suc (length_ranked f xs)

@@ -1,8 +1,9 @@
 -- A record that a statement filled: what its lines are, place by place.
-use Rattle.std.proofs.Common.{◌≡◌, ℕ, zero, suc, ◌+◌, ◌-◌, ◌<◌, ◌≤◌, Bool, true, false, cond, not, List, map, length, get_or, replicate, Some, None, Ok, Err, sum_by, Option, refl, ap, ◌∙◌, arith}
+use Rattle.std.proofs.Common.{◌≡◌, ℕ, ◌+◌, ◌-◌, ◌*◌, ◌<◌, ◌≤◌, Bool, true, false, cond, not, List, map, length, get_or, replicate, Some, None, Ok, Err, sum_by, Option, refl, ap, ◌∙◌, arith}
 use Rattle.std.proofs.lemmas.List.FromFn.{length-map-range_with_len, get_or-map-range_with_len}
 use Rattle.std.proofs.lemmas.List.{get_or_append_left, get_or-append_right, get_or-map, length-append, length-map, length-replicate}
-use Rattle.std.proofs.lemmas.List.Sums.{sum_by-append, sum_by-cons}
+use Rattle.std.proofs.lemmas.List.Sums.{sum_by-append}
+use Rattle.std.proofs.lemmas.List.Folds.{sum_by-replicate}
 use Rattle.tariff.specs.Calendar.{weekday, first_monday, week_of, last_week}
 use Rattle.tariff.specs.Lines.{line_at, week_at}
 use Rattle.tariff.specs.Measure.{measured, measured_hours}
@@ -15,6 +16,7 @@ use Rattle.tariff.specs.declared.season.Site.{Site}
 use Rattle.tariff.specs.declared.statement.Statement.{Statement}
 use Rattle.tariff.specs.declared.statement.StatementRefusal.{StatementRefusal}
 use Rattle.tariff.specs.declared.statement.StatementRefusal.TheVariants.{SeasonNotClosed, NoSuchSite}
+use Rattle.tariff.proofs.Pointwise.{replicate_at}
 
 -- ---- a request that was answered
 
@@ -46,26 +48,20 @@ module _ (s : Season) (site : ℕ) (t : Table) (x : Statement) (n : ℕ) (answer
 -- ---- lists that are filled up
 
 module _ {X : Type 0} (a : X) where
-  unused_at : (n k : ℕ) → get_or (replicate n a) k a ≡ a
-  unused_at zero k = refl
-  unused_at (suc n) zero = refl
-  unused_at (suc n) (suc k) = unused_at n k
-
   filled_used : (n : ℕ) (xs : List X) (k : ℕ) (d : X) → k < length xs → get_or (filled a n xs) k d ≡ get_or xs k d
   filled_used n xs k d l = get_or_append_left xs (replicate (n - length xs) a) d k l
 
   filled_unused : (n : ℕ) (xs : List X) (k : ℕ) → length xs ≤ k → get_or (filled a n xs) k a ≡ a
-  filled_unused n xs k l = get_or-append_right xs (replicate (n - length xs) a) (length xs) k a refl l ∙ unused_at (n - length xs) (k - length xs)
+  filled_unused n xs k l = get_or-append_right xs (replicate (n - length xs) a) (length xs) k a refl l ∙ replicate_at a (n - length xs) (k - length xs)
 
   length_filled : (n : ℕ) (xs : List X) → length xs ≤ n → length (filled a n xs) ≡ n
   length_filled n xs l = length-append xs (replicate (n - length xs) a) ∙ ap (λ m. length xs + m) (length-replicate (n - length xs) a) ∙ omega arith
 
-  sumBy_unused : (f : X → ℕ) → f a ≡ 0 → (n : ℕ) → sum_by f (replicate n a) ≡ 0
-  sumBy_unused f e zero = refl
-  sumBy_unused f e (suc n) = omega (arith, sum_by-cons f a (replicate n a), sumBy_unused f e n)
-
   pub sumBy_filled : (f : X → ℕ) → f a ≡ 0 → (n : ℕ) (xs : List X) → sum_by f (filled a n xs) ≡ sum_by f xs
-  sumBy_filled f e n xs = omega (arith, sum_by-append f xs (replicate (n - length xs) a), sumBy_unused f e (n - length xs))
+  sumBy_filled f e n xs =
+      let m : ℕ = n - length xs in
+      let none : sum_by f (replicate m a) ≡ m * 0 = sum_by-replicate f m a ∙ ap (λ k. m * k) e in
+      sum_by-append f xs (replicate m a) ∙ omega (arith, none)
 
 -- ---- weeks
 

@@ -1,5 +1,5 @@
 -- No event hour is left out of a statement, and none comes twice.
-use Rattle.std.proofs.Common.{◌≡◌, ℕ, zero, suc, ◌+◌, ◌<◌, ◌≤◌, Bool, true, false, cond, List, [], ◌∷◌, map, length, get_or, take, Ok, count_by, filter, sym, refl, ap, ◌∙◌, subst, ap₂, inl, inr, add-one, arith}
+use Rattle.std.proofs.Common.{◌≡◌, ℕ, zero, suc, ◌+◌, ◌<◌, ◌≤◌, Bool, true, false, cond, List, map, length, get_or, take, Ok, count_by, filter, sym, refl, ap, ◌∙◌, subst, ap₂, inl, inr, add-one, arith}
 use Rattle.std.proofs.lemmas.List.{take_all}
 use Rattle.std.proofs.lemmas.List.Sums.{sum_by_more, length-filter}
 use Rattle.std.proofs.lemmas.Bool.{cases_Bool, cases_order}
@@ -7,7 +7,7 @@ use Rattle.tariff.specs.Calendar.{in_week, last_week}
 use Rattle.tariff.specs.Calls.{shut, close_answer}
 use Rattle.tariff.specs.Counting.{count}
 use Rattle.tariff.specs.EveryHour.{InStandingEvent, HasLine, Earlier, ZeroHour, ZeroWeek, EachHourOnce, EveryEventHourOnce}
-use Rattle.tariff.specs.Events.{stands, announced, event_of, event_hour, standing_before, hours_before, week_hours_before}
+use Rattle.tariff.specs.Events.{event_of, event_hour, standing_before, hours_before, week_hours_before}
 use Rattle.tariff.specs.Lines.{line_at, week_at}
 use Rattle.tariff.specs.Measure.{measured, measured_hours}
 use Rattle.tariff.specs.Pay.{hours_in_week}
@@ -15,14 +15,15 @@ use Rattle.tariff.specs.Season.{Season, day_at, standing, standing_events, stand
 use Rattle.tariff.specs.Sound.{Fit, Sound, OfSoundSeasons, AfterAnyCalls, SeasonsAreSound}
 use Rattle.tariff.specs.Statement.{statement_of}
 use Rattle.tariff.specs.Tables.{Table}
-use Rattle.tariff.specs.declared.season.Day.{Day}
-use Rattle.tariff.specs.declared.season.Day.TheVariants.{NoEvent, Standing, Revoked}
 use Rattle.tariff.specs.declared.season.EventHour.{EventHour}
 use Rattle.tariff.specs.declared.season.Site.{Site}
 use Rattle.tariff.specs.declared.statement.HourLine.{HourLine}
 use Rattle.tariff.specs.declared.statement.WeekLine.{WeekLine}
 use Rattle.tariff.specs.declared.statement.Statement.{Statement}
 use Rattle.tariff.proofs.HoursOfEvents.{listed_at, none_left_out, hours_rise}
+use Rattle.tariff.proofs.Pointwise.{sumBy_map}
+use Rattle.tariff.proofs.Runs.{standing_fit}
+use Rattle.tariff.proofs.Totals.{count_same}
 use Rattle.tariff.proofs.RecordFilled.{statement_is, number_is, weeks_few, sixty_lines, ten_weeks, line_is, unused_line, week_is, unused_week}
 
 -- ---- counts
@@ -31,11 +32,6 @@ count_none : (p : ℕ → Bool) (n : ℕ) → ((k : ℕ) → k < n → p k ≡ f
 unfolding count
 count_none p zero h = refl
 count_none p (suc n) h = ap₂ ◌+◌ (count_none p n (λ k l. h k (omega arith))) (ap (λ (b : Bool). cond b 1 0) (h n (omega arith)))
-
-count_same : (p q : ℕ → Bool) (n : ℕ) → ((k : ℕ) → k < n → p k ≡ q k) → count p n ≡ count q n
-unfolding count
-count_same p q zero h = refl
-count_same p q (suc n) h = ap₂ ◌+◌ (count_same p q n (λ k l. h k (omega arith))) (ap (λ (b : Bool). cond b 1 0) (h n (omega arith)))
 
 count_front : {X : Type 0} (p : X → Bool) (xs : List X) (o : X) (i : ℕ) → i ≤ length xs → count (λ k. p (get_or xs k o)) i ≡ count_by p (take i xs)
 unfolding count
@@ -49,20 +45,9 @@ count_places : {X : Type 0} (p : X → Bool) (xs : List X) (o : X) → count (λ
 count_places p xs o = count_front p xs o (length xs) (omega arith) ∙ ap (count_by p) (take_all (length xs) xs (omega arith)) ∙ sym (length-filter p xs)
 
 length_kept_map : {X Y : Type 0} (p : Y → Bool) (f : X → Y) (xs : List X) → length (filter p (map f xs)) ≡ length (filter (λ x. p (f x)) xs)
-length_kept_map p f [] = refl
-length_kept_map p f (x ∷ xs) =
-    elim (cases_Bool (p (f x))) [
-      | inl e ↦ rw e (ap suc (length_kept_map p f xs))
-      | inr e ↦ rw e (length_kept_map p f xs)
-    ]
+length_kept_map p f xs = length-filter p (map f xs) ∙ sym (sumBy_map (λ y. cond (p y) 1 0) f xs) ∙ sym (length-filter (λ x. p (f x)) xs)
 
 -- ---- the lines of a sound season
-
--- a standing event was announced
-stood : (x : Day) → stands x ≡ true → announced x ≡ true
-stood NoEvent h = h
-stood (Standing e) h = refl
-stood (Revoked e) h = refl
 
 -- what is read where there is no event hour
 nowhere : EventHour
@@ -154,7 +139,7 @@ module _ (s : Season) (x : Site) (t : Table) where
 
   module _ (sound : Sound s) where
     fit : (d : ℕ) → standing s d ≡ true → Fit s.year d (event_of (day_at s d))
-    fit d e = sound.events d (stood (day_at s d) e)
+    fit d e = standing_fit s d sound e
 
     within_summer : (k : ℕ) → k < used → ((line_at made k).day < 76) × ((line_at made k).hour < 24)
     within_summer k l =

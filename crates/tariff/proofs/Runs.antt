@@ -1,9 +1,10 @@
 -- Every season that calls have made is sound.
-use Rattle.std.proofs.Common.{◌≡◌, ℕ, zero, suc, ◌+◌, ◌-◌, ◌<◌, ◌≤◌, Bool, true, false, cond, List, [], ◌∷◌, length, get_or, take, replicate, sym, refl, ap, ◌∙◌, subst, inl, inr, le_trans, le_of_eq, arith, length-append, length-set, length-take, get_or-set_other, get_or-set_same}
+use Rattle.std.proofs.Common.{◌≡◌, ℕ, ◌+◌, ◌-◌, ◌<◌, ◌≤◌, Bool, true, false, cond, List, [], ◌∷◌, length, take, replicate, sym, refl, ap, ◌∙◌, subst, inl, inr, le_trans, le_of_eq, arith, length-append, length-set, length-take, get_or-set_other, get_or-set_same}
 use lib.ListN.{length-replicate}
 use Rattle.std.specs.List.{AllByRecursion}
 use Rattle.std.proofs.ByRecursion.{All-push, All-set, All-get_or, All-append, All-take}
-use Rattle.std.proofs.lemmas.Bool.{false≢true, cases_eq, eqb-true}
+use Rattle.std.proofs.lemmas.List.Elements.{All-replicate, recursion_from_All}
+use Rattle.std.proofs.lemmas.Bool.{false≢true, cases_eq, cond_both, eqb-true}
 use Rattle.std.proofs.lemmas.Bool.Decides.{nat_tests}
 use Rattle.tariff.specs.Calendar.{week_of, in_week, day_of}
 use Rattle.tariff.specs.Events.{stands, announced, event_of, day_hours}
@@ -19,18 +20,10 @@ use Rattle.tariff.specs.declared.call.Call.TheVariants.{Enrol, Nominate, Announc
 use Rattle.tariff.specs.declared.call.Answer.TheVariants.{Site as SiteNumber, Week, Announced, Revoked as RevokedHours}
 use Rattle.tariff.proofs.EventHours.{hours_total, week_hours_total}
 use Rattle.tariff.proofs.Kept.{Passed, kept}
+use Rattle.tariff.proofs.Pointwise.{replicate_at}
 use Rattle.tariff.proofs.Totals.{total_none, total_bump}
 
 -- ---- a season without events
-
-no_event_at : (n d : ℕ) → get_or (replicate n NoEvent) d NoEvent ≡ NoEvent
-no_event_at zero d = refl
-no_event_at (suc n) zero = refl
-no_event_at (suc n) (suc d) = no_event_at n d
-
-in_week_none : (b : Bool) (n : ℕ) → n ≡ 0 → cond b n 0 ≡ 0
-in_week_none true n h = h
-in_week_none false n h = refl
 
 -- no day has an event
 module _ (s : Season) (none : (d : ℕ) → day_at s d ≡ NoEvent) where
@@ -40,7 +33,7 @@ module _ (s : Season) (none : (d : ℕ) → day_at s d ≡ NoEvent) where
   no_week_hours : (w : ℕ) → hours_of_week s w ≡ 0
   no_week_hours w =
       week_hours_total s.year w s.days 76
-      ∙ total_none (λ d. cond (in_week s.year w d) (day_hours (day_at s d)) 0) 76 (λ d. in_week_none (in_week s.year w d) (day_hours (day_at s d)) (no_hours d))
+      ∙ total_none (λ d. cond (in_week s.year w d) (day_hours (day_at s d)) 0) 76 (λ d. cond_both (in_week s.year w d) (day_hours (day_at s d)) 0 (λ k. k ≡ 0) (λ _. no_hours d) (λ _. refl))
 
   no_standing_hours : standing_hours s ≡ 0
   no_standing_hours = hours_total s.days 76 ∙ total_none (λ d. day_hours (day_at s d)) 76 no_hours
@@ -56,7 +49,7 @@ module _ (s : Season) (none : (d : ℕ) → day_at s d ≡ NoEvent) where
   }
 
 pub opened_sound : (old : Season) (year : ℕ) → Sound (opened old year)
-opened_sound old year = eventless_sound (opened old year) (no_event_at 76) (length-replicate 76 NoEvent) (omega arith) tt
+opened_sound old year = eventless_sound (opened old year) (replicate_at NoEvent 76) (length-replicate 76 NoEvent) (omega arith) tt
 
 -- ---- the days as they were
 
@@ -73,23 +66,19 @@ refit_sound s c xs a few whole = record {
   whole = whole;
 }
 
-all_replicate : (P : ℕ → Type 0) (n x : ℕ) → P x → AllByRecursion P (replicate n x)
-all_replicate P zero x h = tt
-all_replicate P (suc n) x h = (h, all_replicate P n x h)
-
 enrolled_sound : (s : Season) (m k kw : ℕ) → Sound s → Passed (enrol_checks s m k kw) → Sound (enrolled s k kw)
 enrolled_sound s m k kw a p =
     let f : Figure (kind_of k) kw = grind (arith, nat_tests) in
     refit_sound s _ _ a
     (simp length-append (grind (arith, nat_tests)))
-    (All-push Whole s.sites _ a.whole (record { ten = length-replicate 10 kw; figures = all_replicate (Figure (kind_of k)) 10 kw f; top = f }))
+    (All-push Whole s.sites _ a.whole (record { ten = length-replicate 10 kw; figures = recursion_from_All (Figure (kind_of k)) (replicate 10 kw) (All-replicate (Figure (kind_of k)) 10 kw f); top = f }))
 
 nominated_whole : (x : Site) (w kw : ℕ) → Whole x → Figure x.kind kw → Whole (nominated_site x w kw)
 nominated_whole x w kw h f = record {
   ten = simp (length-append, length-take, length-replicate) (omega (arith, h.ten));
   figures =
       All-append (Figure x.kind) (take (w - 1) x.weeks) (replicate (length x.weeks - (w - 1)) kw)
-      (All-take (Figure x.kind) (w - 1) x.weeks h.figures) (all_replicate (Figure x.kind) (length x.weeks - (w - 1)) kw f);
+      (All-take (Figure x.kind) (w - 1) x.weeks h.figures) (recursion_from_All (Figure x.kind) (replicate (length x.weeks - (w - 1)) kw) (All-replicate (Figure x.kind) (length x.weeks - (w - 1)) kw f));
   top = omega (arith, h.top);
 }
 

@@ -66,6 +66,7 @@ pub enum SeasonRefusal {
 
 impl SeasonRefusal {
     // The number that a caller is shown for a refusal.
+    // A method and no `From`: `u32::from(refusal)` would not say that the number shown to a caller is meant.
     pub fn number(self) -> u32
         ensures { result ≡ season_refusal_number self }
     {

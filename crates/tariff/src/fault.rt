@@ -14,6 +14,7 @@ pub enum Use {
 
 impl Use {
     // The number that reports show for a use.
+    // A method and no `From`: `u32::from(purpose)` would not say that it is what a report shows.
     pub fn number(self) -> u32
         ensures { result ≡ use_number self }
     {
@@ -42,6 +43,7 @@ pub enum BaselineFault {
 
 impl BaselineFault {
     // The number of the hour's gap.
+    // A method and no `From`: a fault holds a day and an hour too, and `u32::from(fault)` would not say which is meant.
     pub fn number(self) -> u32
         ensures { result ≡ baseline_fault_number self }
     {

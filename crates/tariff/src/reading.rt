@@ -12,6 +12,7 @@ pub enum Gap {
 
 impl Gap {
     // The number that a caller is shown where an hour that is needed has this gap.
+    // A method and no `From`: `u32::from(gap)` could as well be the number under which the hour is missing.
     pub fn number(self) -> u32
         ensures { result ≡ gap_number self }
     {

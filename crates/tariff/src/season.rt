@@ -14,6 +14,7 @@ pub enum Kind {
 
 impl Kind {
     // The number that callers and reports have for a kind.
+    // A method and no `From`: `kind.number()` names what `u32::from(kind)` would leave to guess, as for refusals and uses.
     pub fn number(self) -> u32
         ensures is { result ≡ kind_number self }
         ensures back { kind_numbered result ≡ Ok self }

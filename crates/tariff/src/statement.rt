@@ -72,6 +72,7 @@ pub enum StatementRefusal {
 
 impl StatementRefusal {
     // The number that a caller is shown for a refusal.
+    // A method and no `From`: `u32::from(refusal)` would not tell it from the number of the event that lacks a baseline.
     pub fn number(self) -> u32
         ensures { result ≡ statement_refusal_number self }
     {

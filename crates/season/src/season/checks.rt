@@ -16,6 +16,7 @@ use tariff::season::{Day, Event, Kind};
 
 impl Season {
     // The season takes calls, and the moment lies in the summer and not before the clock.
+    // The moment stays the caller's number, with no type of its own: each check gives back only that it lies in the summer.
     pub(super) fn check_moment(&self, moment: u32) -> Result<(), SeasonRefusal>
         ensures is { result ≡ spec.checked (spec.at_moment (view self.now) moment []) tt }
         ensures within { OnOk result (moment ≤ 109439) }

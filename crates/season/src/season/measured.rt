@@ -10,7 +10,6 @@ ghost use Rattle.season.specs.View.{view};
 
 use super::Season;
 use crate::hours::EventHours;
-use tariff::season::Day;
 
 impl Season {
     // The hours of the standing events of the first days, by day and hour.
@@ -66,9 +65,7 @@ impl Season {
         ensures is { result ≡ (if model.standing (view self.now) day then Some (spec.comparison_days (view self.now) day) else None) }
         ensures before { IfSome result (λ days. AllByRecursion (λ k. k < day) days × (day ≤ 75)) }
     {
-        let Day::Standing(_) = self.day(day) else {
-            return None;
-        };
+        self.day(day).standing()?;
         Some(self.ten_latest(day))
     }
 }

@@ -13,11 +13,13 @@ use tariff::season::{Day, Site};
 
 impl Season {
     // Whatever calls it has taken, a record stands for a sound season.
+    #[tactic(auto, using(crate::proofs::Sounds::sound_of))]
     pub fn stays_sound(&self)
         ensures { Sound (view self.now) }
     {}
 
     // A record holds nothing but its season: where two stand for one season, every cell of them is the same.
+    #[tactic(auto, using(crate::proofs::Cells::same_cells))]
     pub fn same_season_same_cells(&self, other: &Season)
         ensures { view self.now ≡ view other.now → SameCells self.now other.now }
     {}

@@ -4,19 +4,16 @@ use Rattle.tariff.specs.Events.{day_hours, day_in, event_hours_before, standing_
 use Rattle.tariff.proofs.EventHours.{event_hours_none, hours_none, hours_more}
 use Rattle.season.specs.Hours.{Placed, hours_listed}
 use Rattle.season.specs.View.{view}
-use Rattle.season.proofs.HourLists.{counted_is, day_listed, day_room, stood, all_placed}
+use Rattle.season.proofs.HourLists.{day_listed, day_room, all_placed}
 use Rattle.season.proofs.Sounds.{sound_of}
 use Rattle.season.proofs.season.Season.hours_before.Goals as goal
 
-pub push_day-requires : goal.push_day-requires
-push_day-requires c =
+pub push_day-requires-clause-room : goal.push_day-requires-clause-room
+push_day-requires-clause-room c =
     let days = c.args.self.now.events.days in
     let d = c.loop-day.day in
     let held : c.day.result ≡ day_in days d = search rules in
-    record {
-      room = omega (arith, day_room days d (omega arith) c.args.self.now.full, ap day_hours held);
-      ends = λ stands. omega (arith, (c.day.ensures.fit (stood _ stands)).latest);
-    }
+    omega (arith, day_room days d (omega arith) c.args.self.now.full, ap day_hours held)
 
 pub loop-day-preserved : goal.loop-day-preserved
 loop-day-preserved c =
@@ -33,15 +30,11 @@ loop-day-preserved c =
 pub loop-day-init : goal.loop-day-init
 loop-day-init c = search (rules, hours_none, event_hours_none)
 
-pub returns : goal.returns
-returns c =
+pub returns-clause-placed : goal.returns-clause-placed
+returns-clause-placed c =
     let s = c.args.self.now in
     let n = c.args.days in
     let inv = c.loop-day.invariant in
     let end : c.loop-day.day ≡ n = omega arith in
     let is : hours_listed c.loop-day.hours ≡ event_hours_before s.events.days n = inv.listed ∙ ap (event_hours_before s.events.days) end in
-    record {
-      is = is;
-      counted = counted_is s.events.days c.loop-day.day n c.loop-day.hours.count end inv.counted;
-      placed = subst (AllByRecursion (Placed (view s))) (sym is) (all_placed (view s) n (sound_of s) c.requires);
-    }
+    subst (AllByRecursion (Placed (view s))) (sym is) (all_placed (view s) n (sound_of s) c.requires)

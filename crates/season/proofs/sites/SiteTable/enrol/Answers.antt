@@ -1,5 +1,4 @@
-use Rattle.std.proofs.Common.{◌<◌, length, arith, length-set}
-use Rattle.std.proofs.lemmas.List.{take_more_set}
+use Rattle.std.proofs.Common.{arith, length-set}
 use Rattle.tariff.specs.Season.{enrolled_site}
 use Rattle.season.proofs.Tables.{blank_more}
 use Rattle.season.proofs.sites.SiteTable.enrol.Goals as goal
@@ -12,9 +11,3 @@ invariant_of-self c =
       cells = simp length-set s.cells;
       blank = blank_more s.count s.sites (enrolled_site c.args.kind c.args.kw) s.blank;
     }
-
-pub returns-clause-list : goal.returns-clause-list
-returns-clause-list c =
-    let s = c.args.self.now in
-    let lt : s.count < length s.sites = omega (arith, s.cells) in
-    take_more_set _ _ _ lt
