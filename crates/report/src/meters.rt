@@ -10,19 +10,12 @@ pub(crate) struct Meters<'a> {
     pub list: &'a [HandedIn<'a>],
 }
 
-// The name of a meter.
-fn name_of<'a>(meter: &BatchMeter<'a>) -> &'a str {
-    match *meter {
-        BatchMeter::Table { name, .. } | BatchMeter::Pair { name, .. } => name,
-    }
-}
-
 impl<'a> Meters<'a> {
     // The name of the meter at a place.
     pub(crate) fn name_at(self, place: usize) -> &'a str {
         self.list
             .get(place)
-            .map_or("", |handed| name_of(&handed.meter))
+            .map_or("", |handed| handed.meter.name())
     }
 
     // The places of the meters that stand in those at some places: these, and the two of each pair that is among them. The two of a
