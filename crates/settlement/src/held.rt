@@ -35,7 +35,7 @@ pub fn hours_held<M: Meter>(meter: &mut M) -> u32
     ensures keeps { M.table meter.new ≡ M.table meter.old }
 {
     let mut found = 0;
-    // A `for` for the same reason as over the hours of a day.
+    // A `for` and no chain, for the same reason: nothing was shown of the table of a `&mut` meter that a closure asks.
     for day in 0..76u8 {
         found += held_on_day(meter, day);
     }
