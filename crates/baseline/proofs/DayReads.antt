@@ -1,5 +1,5 @@
 -- A day that is read hour by hour.
-use Rattle.std.proofs.Common.{◌≡◌, ℕ, ◌+◌, ◌<◌, ◌≤◌, ◌≢◌, List, length, get_or, set, Some, None, Ok, Err, Option, Result, sym, ap, ◌∙◌, arith, get_or-set_other, get_or-set_same, below_more}
+use Rattle.std.proofs.Common.{◌≡◌, ℕ, ◌<◌, List, length, get_or, Some, None, Ok, Err, Option, Result, sym, ap, ◌∙◌, arith}
 use Rattle.std.proofs.lemmas.List.FromFn.{fill_by_all}
 use Rattle.tariff.specs.Tables.{Table, load, load_of, Reading}
 use Rattle.tariff.specs.Faults.{day_fault, hour_fault}
@@ -21,22 +21,9 @@ a_gap : (u : Use) (d h : ℕ) (r : Reading) (x : HourGap) → hour_read u d h r 
 a_gap u d h (Ok w) x e = let z : ◌≡◌ {A = ℕ} 0 1 = cc in absurd (omega arith)
 a_gap u d h (Err g) x e = cc
 
-pub a_load : (u : Use) (d h : ℕ) (r : Reading) (w : ℕ) → hour_read u d h r ≡ Ok w → r ≡ Ok w
-a_load u d h (Ok v) w e = cc
-a_load u d h (Err g) w e = let z : ◌≡◌ {A = ℕ} 0 1 = cc in absurd (omega arith)
-
 -- what a meter answered holds of a table that it kept
 pub asked_of : (s t : Table) (u : Use) (d h : ℕ) (r : Result ℕ HourGap) → s ≡ t → r ≡ hour_read u d h (s d h) → hour_read u d h (t d h) ≡ r
 asked_of s t u d h r kept e = ap (λ (v : Table). hour_read u d h (v d h)) (sym kept) ∙ sym e
-
--- one hour more
-pub read_more : (t : Table) (d h : ℕ) (loads : List ℕ) (w : ℕ) → h < length loads → Read t d h loads → t d h ≡ Ok w → Read t d (h + 1) (set loads h w)
-read_more t d h loads w l read e =
-    below_more _ _ (λ k m. let ne : k ≢ h = omega arith in rw get_or-set_other (read k m)) (rw get_or-set_same e)
-
-pub bound_more : (h : ℕ) (loads : List ℕ) (w most : ℕ) → h < length loads → ((k : ℕ) → k < h → get_or loads k 0 ≤ most) → w ≤ most → (k : ℕ) → k < h + 1 → get_or (set loads h w) k 0 ≤ most
-bound_more h loads w most l below here =
-    below_more _ _ (λ k m. let ne : k ≢ h = omega arith in rw get_or-set_other (below k m)) (rw get_or-set_same here)
 
 gap_at : Table → Use → ℕ → ℕ → Option BaselineFault
 gap_at t u d h = hour_fault u d h (t d h)

@@ -1,19 +1,16 @@
 -- The three highest of some totals are only three places in one order, and the first three of a list in order are such.
-use Rattle.std.proofs.Common.{◌≡◌, ◌≢◌, ℕ, zero, suc, ◌<◌, ◌≤◌, ◌⊎◌, Bool, false, eqb, List, [], ◌∷◌, length, get_or, sym, refl, ap, ◌∙◌, inl, inr, arith, rules}
+use Rattle.std.proofs.Common.{◌≡◌, ◌≢◌, ℕ, zero, suc, ◌<◌, ◌≤◌, ◌⊎◌, false, eqb, List, [], ◌∷◌, length, get_or, sym, refl, ap, ◌∙◌, inl, inr, arith, rules}
 use Rattle.std.specs.Cmp.{IsStrictWeakOrder}
 use Rattle.std.specs.Ordering.{is_lt, nat_cmp, ordering_then}
 use Rattle.std.specs.List.{IsDistinct, All}
-use Rattle.std.specs.List.Sorted.{IsSortedBy, IsPermutation}
+use Rattle.std.specs.List.Sorted.{IsPermutation}
 use Rattle.std.proofs.lemmas.Bool.Decides.{nat_tests}
 use Rattle.std.proofs.lemmas.Map.Keys.{IsDistinct-IsPermutation, IsDistinct-from_apart, apart_from_distinct}
 use Rattle.std.proofs.lemmas.List.Sorted.{sorted_far, ranks_by, All-permutation, Contains-permutation, length_permutation}
 use Rattle.std.proofs.lemmas.List.{ext_get_or, get_or_default}
 use Rattle.std.proofs.lemmas.Bool.{cases_eq, cases_lt, cases_order, eqb-false}
 use Rattle.tariff.specs.Highest.{total_at, GoesBefore, Highest}
-
--- a total and its place stand before others by the totals, falling, and then by the places
-abbrev pub before : ℕ × ℕ → ℕ × ℕ → Bool
-before x y = is_lt (ordering_then (nat_cmp y.0 x.0) (nat_cmp x.1 y.1))
+use Rattle.baseline.specs.Ranked.{before, Ranked}
 
 before_orders : IsStrictWeakOrder before
 before_orders = ranks_by {R = λ (x y : ℕ × ℕ). ordering_then (nat_cmp y.0 x.0) (nat_cmp x.1 y.1)} (search rules) (λ (x : ℕ × ℕ). x)
@@ -107,7 +104,7 @@ module _ (totals : List ℕ) where
     }
 
   -- so the first three places of the totals with their places, sorted
-  module _ (made xs : List (ℕ × ℕ)) (many : length made ≡ length totals) (at : (k : ℕ) → k < length totals → get_or made k (0, 0) ≡ (total_at totals k, k)) (perm : IsPermutation made xs) (up : IsSortedBy before xs) where
+  module _ (made xs : List (ℕ × ℕ)) (many : length made ≡ length totals) (at : (k : ℕ) → k < length totals → get_or made k (0, 0) ≡ (total_at totals k, k)) (perm : IsPermutation made xs) (up : Ranked xs) where
     long : length xs ≡ length totals
     long = length_permutation made xs perm ∙ many
 

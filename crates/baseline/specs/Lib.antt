@@ -1,4 +1,5 @@
 pub mod Days
 pub mod Sums
 pub mod Original
+pub mod Ranked
 pub mod Measuring

@@ -52,6 +52,7 @@ struct Measuring<'a> {
 
 impl Measuring<'_> {
     // An hour of the event's day.
+    // Its bound stays a clause, as below: an hour of a type of its own would be made and undone around each index.
     fn hour(&self, hour: u8) -> DayHour
         requires { hour < 24 }
         ensures load { result.load ≡ slice_index self.now.loads.now.own hour }

@@ -1,11 +1,13 @@
 -- The meters of a list, by their places.
-use Rattle.std.proofs.Common.{◌≡◌, ℕ, zero, suc, ◌-◌, ◌<◌, ◌≤◌, cond, eqb, List, length, get_or, take, Some, None, Err, Option, sym, refl, ap, ◌∙◌, inl, inr, arith}
+use Rattle.std.proofs.Common.{◌≡◌, ℕ, zero, suc, ◌-◌, ◌<◌, ◌≤◌, cond, eqb, List, length, get_or, take, Some, None, Ok, Err, IfOk, IfErr, Option, Result, sym, refl, ap, ◌∙◌, inl, inr, arith}
 use mathlib.Core.Path.{fun_ext}
 use native.Mathlib.Nat.{sub-zero}
 use Rattle.std.proofs.lemmas.List.{get_or_read, get_or-take, length-take-le}
 use Rattle.std.proofs.lemmas.Bool.{cases_eq, cond-true, cond-false, eq-eqb, ne_eqb}
 use Rattle.tariff.specs.Tables.{Table}
-use Rattle.settlement.specs.Choosing.{ChosenFor, PlacesMeanTheirMeters, both_tables, no_meter, table_after, table_among, table_at, together}
+use Rattle.settlement.specs.Chosen.{chosen_table}
+use Rattle.settlement.specs.declared.chosen.ChosenMeter.{ChosenMeter}
+use Rattle.settlement.specs.Choosing.{ChosenFor, PlacesMeanTheirMeters, no_meter, table_after, table_among, table_at}
 use Rattle.settlement.specs.declared.fault.RunFault.{RunFault}
 use Rattle.settlement.specs.declared.fault.RunFault.TheVariants.{NoSuchMeter, NoMemory}
 use Rattle.settlement.specs.declared.results.ReadMeter.{ReadMeter}
@@ -55,15 +57,8 @@ at_place ms place m n lt is e =
     ∙ ap (table_after (table_at (take place ms))) (sym (get_or_read ms place m lt is no_meter) ∙ e)
     ∙ ap (λ k. table_after (table_at (take k ms)) n) (sym (sub-zero place))
 
--- a pair is refused with its first meter, and else with its second
-pub refused_first : (t a b : Option Table) (e : RunFault) → t ≡ both_tables a b → ChosenFor a (Err e) → ChosenFor t (Err e)
-refused_first t a b NoSuchMeter is none = is ∙ ap (λ x. both_tables x b) none
-refused_first t a b NoMemory is none = tt
-
-pub refused_second : (t a b : Option Table) (x : Table) (e : RunFault) → t ≡ both_tables a b → a ≡ Some x → ChosenFor b (Err e) → ChosenFor t (Err e)
-refused_second t a b x NoSuchMeter is some none = is ∙ ap (λ y. both_tables y b) some ∙ ap (both_tables (Some x)) none
-refused_second t a b x NoMemory is some none = tt
-
--- and else it is what both drew together
-pub both_chosen : (t a b : Option Table) (x y z : Table) → t ≡ both_tables a b → a ≡ Some x → b ≡ Some y → z ≡ together x y → t ≡ Some z
-both_chosen t a b x y z is first second e = is ∙ ap (λ v. both_tables v b) first ∙ ap (both_tables (Some x)) second ∙ ap Some (sym e)
+-- what was chosen of a pair's two is what stands at the pair's place
+pub pair_chosen : (t u : Option Table) (r : Result ChosenMeter RunFault) → t ≡ u → IfOk r (λ m. u ≡ Some (chosen_table m)) → IfErr r (λ e. ChosenFor u (Err e)) → ChosenFor t r
+pair_chosen t u (Ok m) is chosen refused = is ∙ chosen
+pair_chosen t u (Err NoSuchMeter) is chosen refused = is ∙ refused
+pair_chosen t u (Err NoMemory) is chosen refused = tt

@@ -1,6 +1,6 @@
-ghost use Rattle.std.specs.Prelude.{◌≡◌, IfOk};
+ghost use Rattle.std.specs.Prelude.{◌≡◌, IfErr, IfOk, Err, Some};
 ghost use Rattle.settlement.specs.Chosen.{chosen_table};
-ghost use Rattle.settlement.specs.Choosing.{ChosenFor, table_at, table_of, together};
+ghost use Rattle.settlement.specs.Choosing.{both_tables, ChosenFor, table_at, table_of, together};
 
 use crate::chosen::ChosenMeter;
 use crate::fault::RunFault;
@@ -31,7 +31,24 @@ fn pair_meter<'a>(
     Ok(ChosenMeter::Pair(Box::new(heap, PairMeter { first, second })?))
 }
 
+// The meters at the two places of a pair, as one; both are looked up among those before it.
+#[cycle(choose)]
+fn choose_pair<'a>(
+    heap: Global,
+    before: &'a [ReadMeter],
+    first: usize,
+    second: usize,
+) -> Result<ChosenMeter<'a>, RunFault>
+    ensures chosen { IfOk result (λ m. both_tables (table_at before.now first) (table_at before.now second) ≡ Some (chosen_table m)) }
+    ensures refused { IfErr result (λ e. ChosenFor (both_tables (table_at before.now first) (table_at before.now second)) (Err e)) }
+{
+    let first = choose(heap, before, first)?;
+    let second = choose(heap, before, second)?;
+    Ok(pair_meter(heap, first, second)?)
+}
+
 // The meter at a place of a list of meters. The two meters of a pair are looked up among those before it.
+#[cycle(choose)]
 pub fn choose<'a>(
     heap: Global,
     meters: &'a [ReadMeter],
@@ -47,10 +64,7 @@ pub fn choose<'a>(
             cells,
         } => Ok(table_meter(*kind, *number, cells.as_slice())),
         ReadMeter::Pair { first, second } => {
-            let before = &meters[0..place];
-            let first = choose(heap, before, *first)?;
-            let second = choose(heap, before, *second)?;
-            Ok(pair_meter(heap, first, second)?)
+            choose_pair(heap, &meters[0..place], *first, *second)
         }
     }
 }

@@ -14,6 +14,7 @@ fn held_in_hour<M: Meter>(meter: &mut M, at: SummerHour) -> u32
 }
 
 // How many hours of a day of the summer hold a load.
+#[tactic(auto, using(tariff::proofs::Totals::count_none, crate::proofs::HoursHeld::hour_more))]
 fn held_on_day<M: Meter>(meter: &mut M, day: u8) -> u32
     requires { day ≤ 75 }
     ensures is { result ≡ held_on_day (M.table meter.old) day 24 }
@@ -29,13 +30,14 @@ fn held_on_day<M: Meter>(meter: &mut M, day: u8) -> u32
 }
 
 // How many of the 1,824 hours of the summer hold a load.
+#[tactic(auto, using(tariff::proofs::Summing::total_zero, crate::proofs::HoursHeld::day_more))]
 pub fn hours_held<M: Meter>(meter: &mut M) -> u32
     ensures is { result ≡ hours_held (M.table meter.old) }
     ensures within { result ≤ 1824 }
     ensures keeps { M.table meter.new ≡ M.table meter.old }
 {
     let mut found = 0;
-    // A `for` for the same reason as over the hours of a day.
+    // A `for` and no chain, for the same reason: nothing was shown of the table of a `&mut` meter that a closure asks.
     for day in 0..76u8 {
         found += held_on_day(meter, day);
     }

@@ -16,6 +16,7 @@ use tariff::statement::Statement;
 
 // The meters that the tasks of a batch name by their places, and the heap on which they are joined.
 // The season and the statements stay parameters, whose types say that a task on meters reads the one and adds to the other.
+// The two places of a compare stay two parameters: a task and a pair of meters hold them by name, and each is chosen by itself.
 #[derive(Clone, Copy)]
 pub(crate) struct Meters<'a> {
     pub(crate) heap: Global,

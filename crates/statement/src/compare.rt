@@ -7,52 +7,52 @@ ghost use Rattle.season.specs.View.{view};
 ghost use Rattle.statement.specs.Compared.{first_after, hours_of_both, outcome_of_both, second_after, WrittenSo};
 
 use crate::both::TwoStatements;
-use crate::settle::settle;
+use crate::settle::Request;
 use meter::meter::Meter;
 use season::Season;
 use tariff::laws::{deeper_cut_never_costs, events_stand_apart};
 use tariff::statement::{Statement, StatementRefusal};
 
-// Settles a site on a first meter and then on a second: the first refusal stops it.
-fn settle_both<M: Meter, N: Meter>(
-    season: &Season,
-    site: u32,
-    first: &mut M,
-    second: &mut N,
-) -> Result<TwoStatements, StatementRefusal>
-    ensures answer { result ≡ outcome_of_both (view season.now) site (M.table first.old) (N.table second.old) }
-    ensures keeps_first { M.table first.new ≡ M.table first.old }
-    ensures keeps_second { N.table second.new ≡ N.table second.old }
-{
-    let (first, hours) = settle(season, site, first)?;
-    let (second, _) = settle(season, site, second)?;
-    Ok(TwoStatements {
-        first,
-        second,
-        hours,
-    })
-}
+impl Request<'_> {
+    // Settles it on a first meter and then on a second: the first refusal stops it.
+    fn both<M: Meter, N: Meter>(
+        &self,
+        first: &mut M,
+        second: &mut N,
+    ) -> Result<TwoStatements, StatementRefusal>
+        ensures answer { result ≡ outcome_of_both (view self.now.season.now) self.now.site (M.table first.old) (N.table second.old) }
+        ensures keeps_first { M.table first.new ≡ M.table first.old }
+        ensures keeps_second { N.table second.new ≡ N.table second.old }
+    {
+        let (first, hours) = self.settle(first)?;
+        let (second, _) = self.settle(second)?;
+        Ok(TwoStatements {
+            first,
+            second,
+            hours,
+        })
+    }
 
-// The same, and what may be relied on of the two statements: where the second meter is the first with deeper cuts, its statement is
-// no worse, and where they differ on one standing event's day alone, the lines of every other event are equal.
-fn settle_compared<M: Meter, N: Meter>(
-    season: &Season,
-    site: u32,
-    first: &mut M,
-    second: &mut N,
-) -> Result<TwoStatements, StatementRefusal>
-    ensures answer { result ≡ outcome_of_both (view season.now) site (M.table first.old) (N.table second.old) }
-    ensures keeps_first { M.table first.new ≡ M.table first.old }
-    ensures keeps_second { N.table second.new ≡ N.table second.old }
-    ensures deeper_cut_never_costs { DeeperCutNeverCosts (view season.now) }
-    ensures events_stand_apart { EventsStandApart (view season.now) }
-    ensures no_worse { Deeper (view season.now) (M.table first.old) (N.table second.old) → WrittenSo NoWorse result }
-    ensures others_kept { (day : ℕ) → standing (view season.now) day ≡ true → OnlyDay day (M.table first.old) (N.table second.old) → WrittenSo (OthersKept day) result }
-{
-    deeper_cut_never_costs();
-    events_stand_apart();
-    season.stays_sound();
-    settle_both(season, site, first, second)
+    // The same, and what may be relied on of the two statements: where the second meter is the first with deeper cuts, its statement
+    // is no worse, and where they differ on one standing event's day alone, the lines of every other event are equal.
+    fn compared<M: Meter, N: Meter>(
+        &self,
+        first: &mut M,
+        second: &mut N,
+    ) -> Result<TwoStatements, StatementRefusal>
+        ensures answer { result ≡ outcome_of_both (view self.now.season.now) self.now.site (M.table first.old) (N.table second.old) }
+        ensures keeps_first { M.table first.new ≡ M.table first.old }
+        ensures keeps_second { N.table second.new ≡ N.table second.old }
+        ensures deeper_cut_never_costs { DeeperCutNeverCosts (view self.now.season.now) }
+        ensures events_stand_apart { EventsStandApart (view self.now.season.now) }
+        ensures no_worse { Deeper (view self.now.season.now) (M.table first.old) (N.table second.old) → WrittenSo NoWorse result }
+        ensures others_kept { (day : ℕ) → standing (view self.now.season.now) day ≡ true → OnlyDay day (M.table first.old) (N.table second.old) → WrittenSo (OthersKept day) result }
+    {
+        deeper_cut_never_costs();
+        events_stand_apart();
+        self.season.stays_sound();
+        self.both(first, second)
+    }
 }
 
 // Settles a site on two meters and fills two records, or neither, and answers the number of event hours. The first meter is settled
@@ -77,7 +77,7 @@ pub fn compare<M: Meter, N: Meter>(
     ensures no_worse { Deeper (view season.now) (M.table first.old) (N.table second.old) → OnOk result (NoWorse one.new two.new) }
     ensures others_kept { (day : ℕ) → standing (view season.now) day ≡ true → OnlyDay day (M.table first.old) (N.table second.old) → OnOk result (OthersKept day one.new two.new) }
 {
-    let both = settle_compared(season, site, first, second)?;
+    let both = Request { season, site }.compared(first, second)?;
     *one = both.first;
     *two = both.second;
     Ok(both.hours)

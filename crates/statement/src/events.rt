@@ -23,8 +23,10 @@ pub(crate) fn comparison_of(season: &Season, day: u8) -> ComparisonDays
     requires { standing (view season.now) day ≡ true }
     ensures { result.days ≡ comparison_days (view season.now) day }
 {
-    let days = season.comparison_days(u32::from(day)).unwrap();
-    ComparisonDays::new(days).unwrap()
+    season
+        .comparison_days(u32::from(day))
+        .and_then(ComparisonDays::new)
+        .unwrap()
 }
 
 // An event as it is measured: with the hour of the day in which its notice fell.

@@ -26,6 +26,7 @@ fn next_number(number: u8, held: Day) -> u8
 
 impl SeasonSite<'_> {
     // Measures the event of a day, where one stands, and adds its hours to the list. Answers the number of the next event.
+    // That the day is one of 76 stays a clause: a type of its own would be made in the loop below, and undone wherever a day is held.
     fn measure_day<M: Meter>(
         &self,
         meter: &mut M,

@@ -4,7 +4,7 @@ ghost use Rattle.tariff.specs.Sound.{AfterAnyCalls};
 ghost use Rattle.tariff.specs.Statement.{hours_answered, outcome, record_after};
 ghost use Rattle.season.specs.View.{view};
 
-use crate::settle::settle;
+use crate::settle::Request;
 use meter::meter::Meter;
 use season::Season;
 use tariff::laws::{deeper_cut_never_costs, events_stand_apart, sites_stand_apart};
@@ -28,7 +28,7 @@ pub fn statement<M: Meter>(
     deeper_cut_never_costs();
     events_stand_apart();
     sites_stand_apart();
-    let (settled, hours) = settle(season, site, meter)?;
+    let (settled, hours) = Request { season, site }.settle(meter)?;
     *filled = settled;
     Ok(hours)
 }

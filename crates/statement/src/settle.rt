@@ -23,22 +23,33 @@ impl SeasonSite<'_> {
     }
 }
 
-// What comes of a request for a site's statement: the checks in their order, and then the statement with its number of hours.
-pub(crate) fn settle<M: Meter>(
-    season: &Season,
-    site: u32,
-    meter: &mut M,
-) -> Result<(Statement, u32), StatementRefusal>
-    ensures answer { result ≡ outcome (view season.now) site (M.table meter.old) }
-    ensures keeps { M.table meter.new ≡ M.table meter.old }
-{
-    if !season.is_closed() {
-        return Err(StatementRefusal::SeasonNotClosed);
+// A request for the statement of a site of a season, by its number, which no site may have.
+#[derive(Clone, Copy)]
+pub(crate) struct Request<'a> {
+    pub(crate) season: &'a Season,
+    pub(crate) site: u32,
+}
+
+impl Request<'_> {
+    // What comes of it on a meter: the checks in their order, and then the statement with its number of hours.
+    pub(crate) fn settle<M: Meter>(
+        &self,
+        meter: &mut M,
+    ) -> Result<(Statement, u32), StatementRefusal>
+        ensures answer { result ≡ outcome (view self.now.season.now) self.now.site (M.table meter.old) }
+        ensures keeps { M.table meter.new ≡ M.table meter.old }
+    {
+        if !self.season.is_closed() {
+            return Err(StatementRefusal::SeasonNotClosed);
+        }
+        let site = self
+            .season
+            .site(self.site)
+            .ok_or(StatementRefusal::NoSuchSite)?;
+        let enrolled = SeasonSite {
+            season: self.season,
+            site: &site,
+        };
+        enrolled.settle_site(meter)
     }
-    let site = season.site(site).ok_or(StatementRefusal::NoSuchSite)?;
-    let enrolled = SeasonSite {
-        season,
-        site: &site,
-    };
-    enrolled.settle_site(meter)
 }

@@ -1,12 +1,11 @@
-use Rattle.std.proofs.Common.{ℕ, ◌<◌, ◌≤◌, List}
-use Rattle.std.specs.List.{AllByRecursion}
+use Rattle.std.proofs.Common.{◌≡◌, Some, rules}
+use Rattle.tariff.specs.Comparison.{comparison_days}
 use Rattle.baseline.specs.declared.days.ComparisonDays.{ComparisonDays}
-use Rattle.statement.proofs.Days.{found_at, taken_before}
+use Rattle.season.specs.View.{view}
+use Rattle.statement.proofs.Days.{taken_found}
 use Rattle.statement.proofs.events.comparison_of.Goals as goal
 
 pub unwrap-requires : goal.unwrap-requires
 unwrap-requires c =
-    let day : ℕ = c.from.result in
-    let days : List ℕ = c.unwrap-days.result in
-    let before = found_at (λ (xs : List ℕ). AllByRecursion (λ k. k < day) xs × (day ≤ 75)) c.comparison_days.result days c.unwrap-days.ensures c.comparison_days.ensures.before in
-    taken_before (λ (x : ComparisonDays). x.days) c.new.result day days c.new.ensures before.1 before.0
+    let found : c.comparison_days.result ≡ Some (comparison_days (view c.args.season.now) c.from.result) = search rules in
+    taken_found (λ (x : ComparisonDays). x.days) c.comparison_days.result c.and_then.result c.from.result _ found c.comparison_days.ensures.before c.and_then.ensures

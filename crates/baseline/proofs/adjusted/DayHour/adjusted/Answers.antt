@@ -4,8 +4,8 @@ use Rattle.tariff.specs.Measure.{adjusted_from}
 use Rattle.tariff.proofs.Adjustment.{the_adjustment_is_held}
 use Rattle.baseline.proofs.adjusted.DayHour.adjusted.Goals as goal
 
-pub returns : goal.returns
-returns c =
+pub returns-clause-value : goal.returns-clause-value
+returns-clause-value c =
     let p : ℕ = c.args.first.load in
     let q : ℕ = c.args.second.load in
     let p₃ : ℕ = c.args.first.base in
@@ -14,4 +14,4 @@ returns c =
     let n : ℕ = adjusted_from p q p₃ q₃ b in
     let sum : pos (10 * b) +ℤ c.held_adjustment.result ≡ pos n =
     ap (λ z. pos (10 * b) +ℤ z) c.held_adjustment.ensures.value ∙ sym (the_adjustment_is_held p q p₃ q₃ b).sum in
-    record { value = omega (arith, ints); bound = omega (arith, ints) }
+    omega (arith, ints)

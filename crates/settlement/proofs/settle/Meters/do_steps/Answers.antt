@@ -1,18 +1,11 @@
-use Rattle.std.proofs.lemmas.Result.{err_from_is_err_and, IfOk-from_err}
+use Rattle.std.proofs.lemmas.Result.{err_from_is_err_and}
 use Rattle.settlement.proofs.Tasks.{there_more, there_all, stopped_here, season_more, season_all, outcomes_more, outcomes_all, statements_more, statements_all}
 use Rattle.settlement.proofs.settle.Meters.do_steps.Goals as goal
 
-pub returns-in_err-outcome : goal.returns-in_err-outcome
-returns-in_err-outcome c =
-    let err = c.from_residual.ensures.0 in
+pub returns-in_err-outcome-clause-stopped : goal.returns-in_err-outcome-clause-stopped
+returns-in_err-outcome-clause-stopped c =
     let p = err_from_is_err_and c.from_residual.result c.from_residual.ensures.1 in
-    record {
-      there = IfOk-from_err _ _ err;
-      outcomes = IfOk-from_err _ _ err;
-      after = IfOk-from_err _ _ err;
-      written = IfOk-from_err _ _ err;
-      stopped = rw (p.1, p.2) (stopped_here _ _ _ _ _ _ c.loop-step-test.true c.in_err-outcome.ensures.stopped c.loop-step.invariant.0);
-    }
+    rw (p.1, p.2) (stopped_here _ _ _ _ _ _ c.loop-step-test.true c.in_err-outcome.ensures.stopped c.loop-step.invariant.0)
 
 pub loop-step-preserved : goal.loop-step-preserved
 loop-step-preserved c =

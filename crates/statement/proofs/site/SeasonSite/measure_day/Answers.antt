@@ -1,4 +1,4 @@
-use Rattle.std.proofs.Common.{◌≡◌, ℕ, ◌+◌, Bool, false, cond, Err, sym, refl, ap, ◌∙◌, subst, arith}
+use Rattle.std.proofs.Common.{◌≡◌, ℕ, ◌+◌, Bool, false, cond, Err, sym, refl, ap, ◌∙◌, subst, arith, rules}
 use Rattle.std.specs.List.{AllByRecursion}
 use Rattle.std.proofs.lemmas.Result.{err_from_is_err_and}
 use Rattle.tariff.specs.Events.{stands}
@@ -18,7 +18,7 @@ returns-in_err-measured-in-Standing-clause-told g c =
     let t = g.M.Meter.table c.args.meter.now in
     let list = c.args.list.now in
     let f = c.in_err-measured-in-Standing.field-0.0 in
-    let held : day_at s c.args.day ≡ Standing c.in-Standing.event = ap (day_at s) (sym c.from.ensures) ∙ sym c.day-held.ensures.is ∙ c.in-Standing.is in
+    let held : day_at s c.args.day ≡ Standing c.in-Standing.event = search rules in
     let p = err_from_is_err_and c.from_residual.result c.from_residual.ensures.1 in
     let is : c.from_residual.result ≡ Err f = p.1 ∙ ap Err p.2 in
     let fault = standing_fault s x t c.args.day c.in-Standing.event c.args.number held c.requires.number f c.in_err-measured-in-Standing.ensures.answer in
@@ -28,7 +28,7 @@ pub push_event-requires-clause-room : goal.push_event-requires-clause-room
 push_event-requires-clause-room g c =
     let s = view c.args.self.now.season.now in
     let t = g.M.Meter.table c.args.meter.now in
-    let held : day_at s c.args.day ≡ Standing c.in-Standing.event = ap (day_at s) (sym c.from.ensures) ∙ sym c.day-held.ensures.is ∙ c.in-Standing.is in
+    let held : day_at s c.args.day ≡ Standing c.in-Standing.event = search rules in
     let count = count_of s c.args.self.now.site.now t c.args.day c.in-Standing.event c.args.number held c.requires.number c.in_ok-measured-in-Standing.measured c.in_ok-measured-in-Standing.ensures.answer in
     omega (arith, count, c.requires.room)
 
@@ -36,7 +36,7 @@ pub push_event-requires-clause-days : goal.push_event-requires-clause-days
 push_event-requires-clause-days g c k h =
     let s = view c.args.self.now.season.now in
     let t = g.M.Meter.table c.args.meter.now in
-    let held : day_at s c.args.day ≡ Standing c.in-Standing.event = ap (day_at s) (sym c.from.ensures) ∙ sym c.day-held.ensures.is ∙ c.in-Standing.is in
+    let held : day_at s c.args.day ≡ Standing c.in-Standing.event = search rules in
     days_within s c.args.self.now.site.now t c.args.day c.in-Standing.event c.args.number held c.requires.number c.in_ok-measured-in-Standing.measured c.in_ok-measured-in-Standing.ensures.answer c.requires.day k
 
 pub next_number-next-requires : goal.next_number-next-requires
@@ -51,7 +51,7 @@ returns-in_ok-measured-in-Standing-clause-told g c =
     let t = g.M.Meter.table c.args.meter.now in
     let m = c.in_ok-measured-in-Standing.measured in
     let after = c.push_event.new.list in
-    let held : day_at s c.args.day ≡ Standing c.in-Standing.event = ap (day_at s) (sym c.from.ensures) ∙ sym c.day-held.ensures.is ∙ c.in-Standing.is in
+    let held : day_at s c.args.day ≡ Standing c.in-Standing.event = search rules in
     let weeks = subst (λ (y : ℕ). AllByRecursion (InYear y) (listed after)) c.year.ensures c.push_event.ensures.weeks in
     let more : c.next_number-next.result ≡ c.args.number + 1 = c.next_number-next.ensures ∙ ap (λ day. c.args.number + cond (stands day) 1 0) c.in-Standing.is in
     subst (DayMeasured s x t c.args.day c.args.list.now after) (sym more) (standing_day s x t c.args.day c.in-Standing.event c.args.number held c.requires.number m c.args.list.now after c.in_ok-measured-in-Standing.ensures.answer c.push_event.ensures.counts c.push_event.ensures.hours weeks)

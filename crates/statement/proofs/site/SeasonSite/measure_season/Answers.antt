@@ -31,8 +31,8 @@ pub measure_day-requires-clause-room : goal.measure_day-requires-clause-room
 measure_day-requires-clause-room g c =
     room_for_day (view c.args.self.now.season.now) c.loop-day.day (length (listed c.loop-day.list)) (omega arith) c.stays_sound.ensures.overall c.loop-day.invariant.2
 
-pub returns-in_err-number : goal.returns-in_err-number
-returns-in_err-number g c =
+pub returns-in_err-number-clause-told : goal.returns-in_err-number-clause-told
+returns-in_err-number-clause-told g c =
     let s = view c.args.self.now.season.now in
     let x = c.args.self.now.site.now in
     let t = g.M.Meter.table c.args.meter.now in
@@ -42,10 +42,7 @@ returns-in_err-number g c =
     let p = err_from_is_err_and c.from_residual.result c.from_residual.ensures.1 in
     let is : c.from_residual.result ≡ Err (EventWithoutBaseline f) = p.1 ∙ ap Err p.2 in
     let here = subst (λ (u : Table). day_refusal s u d ≡ Some (EventWithoutBaseline f)) inv.0 c.in_err-number.ensures.told in
-    record {
-      told = subst (SeasonTold s x t) (sym is) (first_fault s t d (EventWithoutBaseline f) (omega arith) inv.5 here);
-      keeps = c.measure_day.ensures.keeps ∙ inv.0;
-    }
+    subst (SeasonTold s x t) (sym is) (first_fault s t d (EventWithoutBaseline f) (omega arith) inv.5 here)
 
 pub loop-day-preserved : goal.loop-day-preserved
 loop-day-preserved g c =
@@ -66,8 +63,8 @@ loop-day-preserved g c =
       below_more _ _ inv.5 day.answered,
     )
 
-pub returns : goal.returns
-returns g c =
+pub returns-clause-told : goal.returns-clause-told
+returns-clause-told g c =
     let s = view c.args.self.now.season.now in
     let x = c.args.self.now.site.now in
     let t = g.M.Meter.table c.args.meter.now in
@@ -75,11 +72,8 @@ returns g c =
     let list = c.loop-day.list in
     let end : c.loop-day.day ≡ 76 = omega arith in
     record {
-      told = record {
-        answered = no_fault s t (λ k h. inv.5 k (omega arith));
-        counts = hours_counted s (length (listed list)) (inv.2 ∙ ap (hours_before s.days) end);
-        hours = inv.3 ∙ ap (λ n. map (measured s x t) (event_hours_before s.days n)) end;
-        weeks = inv.4;
-      };
-      keeps = inv.0;
+      answered = no_fault s t (λ k h. inv.5 k (omega arith));
+      counts = hours_counted s (length (listed list)) (inv.2 ∙ ap (hours_before s.days) end);
+      hours = inv.3 ∙ ap (λ n. map (measured s x t) (event_hours_before s.days n)) end;
+      weeks = inv.4;
     }
