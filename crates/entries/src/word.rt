@@ -26,6 +26,7 @@ pub(crate) enum Keyword {
 }
 
 // What a meter is made of: a table of readings, or two meters.
+// No `Option` of a table's kind: `None` would not say that a pair is meant.
 #[derive(Clone, Copy)]
 pub(crate) enum MeterForm {
     Table { kind: TableKind },

@@ -50,7 +50,7 @@ pub fn trim(line: &str) -> &str
     unblank_end(unblank(line))
 }
 
-// The words between the blanks of a text, one after another.
+// The words between the blanks of a text, one after another. The sign that begins a comment is no blank: whoever has comments cuts them first.
 #[derive(Clone, Copy)]
 pub struct Words<'a> {
     rest: &'a str,
