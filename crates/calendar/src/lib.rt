@@ -55,7 +55,7 @@ pub fn in_season(day: u32) -> bool
 
 // The Monday of week 1, the week that holds June 15.
 #[tactic(auto, unfolding(tariff::specs::Calendar::first_monday))]
-fn first_monday(year: u32) -> u32
+pub fn first_monday(year: u32) -> u32
     ensures is { result ≡ spec.first_monday year }
     ensures from { 8 ≤ result }
     ensures to { result ≤ 14 }

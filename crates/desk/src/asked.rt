@@ -3,6 +3,7 @@ use std::fmt;
 use std::fmt::{Display, Formatter, Write};
 
 // How a settled batch is written.
+// A value that a word asks for, matched once: functions in its place would say no more.
 #[derive(Clone, Copy, PartialEq, Eq, Debug)]
 pub enum Form {
     // a report that people read
@@ -12,6 +13,7 @@ pub enum Form {
 }
 
 // What a command asks for: to be told how it is used, or to settle a batch, from the file named or from standard input.
+// No `Option`: `None` would not say that help is asked for.
 #[derive(Clone, Copy)]
 pub(crate) enum Asked<'a> {
     Help,

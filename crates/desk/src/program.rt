@@ -54,10 +54,13 @@ fn show(rt: &HostRuntime, text: &str) -> Result<(), Stopped> {
 // The text that the words of a command ask for: how the program is used, or a settled batch.
 pub fn text_for(rt: &HostRuntime, words: &[&str]) -> Result<String, Failure> {
     let heap = rt.alloc();
-    match asked_for(words) {
-        Ok(Asked::Help) => Ok(String::from_str(heap, USAGE)?),
-        Ok(Asked::Settle { form, path }) => settle_source(rt, path, form),
-        Err(fault) => Err(Failure::said(heap, format_args!("{fault}\n\n{USAGE}"))),
+    let asked = asked_for(words).map_err(|fault| Failure::said(
+        heap,
+        format_args!("{fault}\n\n{USAGE}"),
+    ))?;
+    match asked {
+        Asked::Help => Ok(String::from_str(heap, USAGE)?),
+        Asked::Settle { form, path } => settle_source(rt, path, form),
     }
 }
 

@@ -4,6 +4,7 @@ use crate::figures::Grouped;
 use std::fmt;
 use std::fmt::{Display, Formatter, Write};
 use tariff::call::{Answer, Call};
+use tariff::season::Kind;
 
 // How many there are of something, as `3 hours` or `1 hour`.
 #[derive(Clone, Copy)]
@@ -23,10 +24,10 @@ struct SiteOfKind(u32);
 
 impl Display for SiteOfKind {
     fn fmt<W: Write>(&self, f: &mut Formatter<W>) -> fmt::Result {
-        match self.0 {
-            0 => write!(f, "a single site"),
-            1 => write!(f, "an aggregated site"),
-            kind => write!(f, "a site of kind {kind}"),
+        match Kind::try_from(self.0) {
+            Ok(Kind::Single) => write!(f, "a single site"),
+            Ok(Kind::Aggregated) => write!(f, "an aggregated site"),
+            Err(_) => write!(f, "a site of kind {}", self.0),
         }
     }
 }

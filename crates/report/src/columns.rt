@@ -1,6 +1,6 @@
 // Columns that several tables have. In each table a figure stands at the end of its column, after a blank.
 use crate::dates::{Date, Hour};
-use calendar::weekday;
+use calendar::first_monday;
 use std::fmt;
 use std::fmt::{Display, Formatter, Write};
 use tariff::statement::HourLine;
@@ -48,11 +48,10 @@ pub(crate) struct Week {
 impl Display for Week {
     fn fmt<W: Write>(&self, f: &mut Formatter<W>) -> fmt::Result {
         let Week { year, number } = *self;
-        let first = 14 - weekday(year, 14);
         let weeks_before = number.saturating_sub(1).min(9);
         let begins = Date {
             year: Some(year),
-            day: first + 7 * weeks_before,
+            day: first_monday(year) + 7 * weeks_before,
         };
         write!(f, "    {number:>5}  {begins:<13} ")
     }

@@ -1,7 +1,7 @@
 // Two statements of one site, and how the second differs from the first.
 use crate::columns::{EventHour, HOURS_HEADING, Week};
 use crate::figures::{Cents, Dollars, Kwh, difference};
-use crate::telling::Written;
+use crate::telling::{PAID, Written};
 use std::fmt;
 use std::fmt::{Display, Formatter, Write};
 use tariff::statement::{HourLine, WeekLine};
@@ -97,26 +97,17 @@ impl Differences<'_> {
     fn write_totals<W: Write>(self, f: &mut Formatter<W>) -> fmt::Result {
         let (one, two) = (self.one.statement, self.two.statement);
         writeln!(f, "{TOTALS_HEADING}")?;
-        for (name, first, second) in [
-            ("all capacity and energy pay", one.incentive, two.incentive),
-            ("all adjustments", one.charged, two.charged),
-            (
-                "adjustments taken off, at most all the pay",
-                one.taken,
-                two.taken,
-            ),
-            ("net", one.net, two.net),
-        ] {
+        for ((name, first), (_, second)) in self.one.totals().iter().zip(self.two.totals().iter()) {
+            let (first, second) = (*first, *second);
             let changed = difference(Dollars, first, second);
             let first = Dollars(first);
             let second = Dollars(second);
             writeln!(f, "    {name:<44} {first:>19} {second:>19} {changed:>19}")?;
         }
-        let name = "paid, in whole cents";
         let changed = difference(Cents, one.paid, two.paid);
         let first = Cents(one.paid);
         let second = Cents(two.paid);
-        writeln!(f, "    {name:<44} {first:>16} {second:>19} {changed:>19}")
+        writeln!(f, "    {PAID:<44} {first:>16} {second:>19} {changed:>19}")
     }
 }
 

@@ -71,6 +71,7 @@ impl Display for Cents {
 }
 
 // How one amount differs from another: a sign, and by how much.
+// A sign beside the amount and no signed number: the type of the amount shows whole figures without one.
 #[derive(Clone, Copy)]
 pub(crate) struct Change<T> {
     sign: &'static str,

@@ -10,6 +10,7 @@ pub struct HandedIn<'a> {
 }
 
 // A batch with what came of it.
+// Steps and outcomes side by side: a run is given the steps, and answers one outcome for each.
 #[derive(Drop)]
 pub struct Settled<'a> {
     pub label: &'a str,

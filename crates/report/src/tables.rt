@@ -1,7 +1,7 @@
 // A statement as tables: its event hours, its weeks, its totals and what is paid.
 use crate::columns::{EventHour, HOURS_HEADING, Week};
 use crate::figures::{Cents, Dollars, Grouped, Kwh};
-use crate::telling::Written;
+use crate::telling::{PAID, Written};
 use std::fmt;
 use std::fmt::{Display, Formatter, Write};
 use tariff::statement::{HourLine, WeekLine};
@@ -92,20 +92,11 @@ impl Tables<'_> {
     }
 
     fn write_totals<W: Write>(self, f: &mut Formatter<W>) -> fmt::Result {
-        let Tables(Written { statement, .. }) = self;
-        for (name, millicents) in [
-            ("all capacity and energy pay", statement.incentive),
-            ("all adjustments", statement.charged),
-            (
-                "adjustments taken off, at most all the pay",
-                statement.taken,
-            ),
-            ("net", statement.net),
-        ] {
+        let Tables(written) = self;
+        for (name, millicents) in written.totals() {
             writeln!(f, "    {name:<44} {:>19}", Dollars(millicents))?;
         }
-        let name = "paid, in whole cents";
-        writeln!(f, "    {name:<44} {:>16}", Cents(statement.paid))
+        writeln!(f, "    {PAID:<44} {:>16}", Cents(written.statement.paid))
     }
 }
 

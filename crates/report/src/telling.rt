@@ -9,6 +9,9 @@ use std::slice;
 use tariff::call::{Answer, Call, SeasonRefusal};
 use tariff::statement::{HourLine, Statement, StatementRefusal, WeekLine};
 
+// The name of what a statement pays out.
+pub(crate) const PAID: &str = "paid, in whole cents";
+
 // A statement that was written, with the year of its season and the number of its event hours.
 #[derive(Clone, Copy)]
 pub(crate) struct Written<'a> {
@@ -21,6 +24,19 @@ impl<'a> Written<'a> {
     // The lines of its event hours.
     pub(crate) fn hour_lines(self) -> Take<slice::Iter<'a, HourLine>> {
         self.statement.hours.iter().take(self.hours as usize)
+    }
+
+    // Its totals in millicents, each with its name.
+    pub(crate) fn totals(self) -> [(&'static str, u64); 4] {
+        [
+            ("all capacity and energy pay", self.statement.incentive),
+            ("all adjustments", self.statement.charged),
+            (
+                "adjustments taken off, at most all the pay",
+                self.statement.taken,
+            ),
+            ("net", self.statement.net),
+        ]
     }
 
     // The weeks of its season by their numbers, each with its line.

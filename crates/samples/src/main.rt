@@ -33,7 +33,7 @@ fn show_all(rt: &HostRuntime) -> Result<(), Stopped> {
     Ok(())
 }
 
-// A match on two cases, as in every program here: a conversion of the result would be longer, and say the same.
+// A match on two cases: a conversion of the result would be longer, and say the same.
 fn main(rt: HostRuntime) -> ExitCode {
     match show_all(&rt) {
         Ok(()) => ExitCode::SUCCESS,

@@ -5,7 +5,7 @@ use desk::failure::Stopped;
 use desk::program::run_settle;
 use std::process::ExitCode;
 
-// A match on two cases, as in every program here: a conversion of the result would be longer, and say the same.
+// A match on two cases: a conversion of the result would be longer, and say the same.
 fn main(rt: HostRuntime) -> ExitCode {
     match run_settle(&rt) {
         Ok(()) => ExitCode::SUCCESS,
