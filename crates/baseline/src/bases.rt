@@ -5,6 +5,7 @@ ghost use Rattle.baseline.specs.Sums.{«sum_at», «bases_of», SmallBases};
 use std::array;
 
 // What the days at three places drew together in an hour.
+// The bound of the hour stays a clause, as in measuring an event.
 fn base_at(days: &[[u32; 24]; 10], places: [usize; 3], hour: usize) -> u64
     requires places { (k : ℕ) → k < 3 → slice_index places k < 10 }
     requires hour { hour < 24 }

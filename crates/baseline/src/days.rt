@@ -22,10 +22,11 @@ impl ComparisonDays {
     pub fn new(days: [u8; 10]) -> Option<ComparisonDays>
         ensures { option_map (λ x. x.days) result ≡ days_taken days }
     {
-        if all_within(&days) {
-            Some(ComparisonDays { days })
-        } else {
-            None
-        }
+        all_within(&days).then(
+            ||
+                requires { (k : ℕ) → k < 10 → slice_index days k ≤ 75 }
+                ensures { result.days ≡ days }
+            { ComparisonDays { days } },
+        )
     }
 }

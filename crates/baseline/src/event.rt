@@ -25,6 +25,7 @@ fn read_own<M: Meter>(meter: &mut M, event: &EventSpan) -> Result<[u32; 24], Bas
 }
 
 // Reads the days to compare with, and then the event's own day.
+// The meter is lent to be asked and the other two are only read, so they stay three parameters.
 fn read_loads<M: Meter>(
     meter: &mut M,
     days: &ComparisonDays,
@@ -58,8 +59,8 @@ impl Measuring<'_> {
         ensures load { result.load ≡ slice_index self.now.loads.now.own hour }
         ensures base { result.base ≡ slice_index self.now.loads.now.bases hour }
     {
-        let load = self.loads.own[hour as usize];
-        let base = self.loads.bases[hour as usize];
+        let load = self.loads.own[usize::from(hour)];
+        let base = self.loads.bases[usize::from(hour)];
         DayHour { load, base }
     }
 

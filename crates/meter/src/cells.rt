@@ -2,6 +2,7 @@ ghost use Rattle.std.specs.Prelude.{◌≡◌, ◌+◌, ◌/◌, ◌^◌, ◌<�
 ghost use Rattle.meter.specs.Cells.{together};
 
 // The most that each of the N cells of an hour may hold: its part of what the hour may.
+// That N is from 1 to 4 is a clause of three functions: no type holds a const parameter's bounds where no value of it is made.
 fn most<const N: usize>() -> u32
     requires some { 1 ≤ N }
     requires few { N ≤ 4 }

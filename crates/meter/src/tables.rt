@@ -23,6 +23,7 @@ pub fn record(
     ensures answer { result ≡ record_answer table.old kind cell load }
     ensures cells { table.new ≡ recorded table.old kind cell load }
 {
+    // By its index; tried: a slice's `get_mut` says the length after it and no cell, so what the table holds then stayed open.
     let place = cell as usize;
     if cell >= kind.span() || place >= table.len() {
         return Err(RecordRefusal::NoSuchCell);

@@ -3,7 +3,7 @@ ghost use Rattle.std.specs.Prelude.{◌≤◌};
 use crate::placed::PlacedHour;
 
 // The measured hours of a season, at most 60.
-// A fixed array with its count, since no statement is refused for want of memory; an `ArrayVec` needs none, but is no `Copy`, as this is.
+// A fixed array with its count: the type is public and `Copy`, which an `ArrayVec` is not, and nothing here wants memory.
 #[derive(Clone, Copy)]
 pub struct HourList {
     pub(crate) hours: [PlacedHour; 60],

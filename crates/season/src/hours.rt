@@ -7,7 +7,7 @@ ghost use Rattle.season.specs.Rest.{RestZero};
 use tariff::season::{Day, Event, EventHour};
 
 // Up to 60 hours, of which the first `count` are used; the other entries are zero.
-// A fixed array with its count, since reading a season is never refused for want of memory; an `ArrayVec` needs none, but is no `Copy`.
+// A fixed array with its count: the type is public and `Copy`, which an `ArrayVec` is not, and nothing here wants memory.
 #[derive(Clone, Copy)]
 pub struct EventHours {
     pub hours: [EventHour; 60],
@@ -47,6 +47,7 @@ impl EventHours {
         ensures list { hours_listed self.new ≡ hours_listed self.old ++ map (event_hour number day) (range_with_len event.start event.length) }
         ensures more { self.new.count ≡ self.old.count + event.length }
     {
+        // by the hour's number, which each entry holds
         for hour in event.start..event.start + event.length {
             self.push(EventHour {
                 event: number,

@@ -18,7 +18,7 @@ mod reads;
 #[derive(Clone, Copy, PartialEq, Eq)]
 pub struct Season {
     year: u32,
-    // also true where no season was ever opened, as the model has it, so that such a record refuses every call alike
+    // also true where no season was ever opened, as the model has it, so that such a record refuses every call alike; a year that may be missing would not say more
     closed: bool,
     // the moment of the last accepted announcement or revocation
     clock: u32,

@@ -76,7 +76,7 @@ impl SiteTable {
         ensures is { result.now ≡ listed self.now }
         ensures long { length result.now ≡ self.now.count }
     {
-        &self.sites[..self.count as usize]
+        &self.sites[..usize::from(self.count)]
     }
 
     // The site of a number, counted from 1, where there is one.

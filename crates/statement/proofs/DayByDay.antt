@@ -1,11 +1,11 @@
 -- What one day leaves: nothing where no event stands, and else its hours or its fault.
-use Rattle.std.proofs.Common.{◌≡◌, ℕ, zero, suc, ◌+◌, ◌-◌, ◌≤◌, false, cond, ◌⊎◌, inl, inr, List, [], ◌∷◌, ◌++◌, map, length, get_or, take, replicate, Some, None, Ok, Err, Option, sym, refl, ap, ◌∙◌, subst, ap₂, append-nil, arith}
+use Rattle.std.proofs.Common.{◌≡◌, ℕ, zero, suc, ◌+◌, ◌-◌, ◌≤◌, false, cond, List, [], ◌∷◌, ◌++◌, map, length, get_or, take, replicate, Some, None, Ok, Err, Option, sym, refl, ap, ◌∙◌, subst, ap₂, append-nil, arith}
 use lib.ListN.{length-map}
 use Rattle.std.specs.List.{range_with_len, AllByRecursion}
 use Rattle.std.proofs.lemmas.List.FromFn.{length-range_with_len}
 use Rattle.std.proofs.ByRecursion.{All-append, All-weaker}
 use Rattle.std.proofs.lemmas.Bool.{cond-true, cond-false}
-use Rattle.tariff.specs.Events.{stands, day_hours, event_number, event_hour, hours_on, standing_before}
+use Rattle.tariff.specs.Events.{stands, standing_event, day_hours, event_number, event_hour, hours_on, standing_before}
 use Rattle.tariff.specs.Measure.{measured}
 use Rattle.tariff.specs.Pay.{filled}
 use Rattle.tariff.specs.Season.{Season, day_at, standing}
@@ -49,9 +49,15 @@ no_hours NoEvent h = (refl, λ n d. refl)
 no_hours (Standing e) h = let z : ◌≡◌ {A = ℕ} 0 1 = cc in absurd (omega arith)
 no_hours (Revoked e) h = (refl, λ n d. refl)
 
-pub stands_not : (held : Day) → (held ≡ NoEvent) ⊎ ((e : Event) × (held ≡ Revoked e)) → stands held ≡ false
-stands_not held (inl h) = ap stands h
-stands_not held (inr (e, h)) = ap stands h
+pub stands_none : (held : Day) → standing_event held ≡ None → stands held ≡ false
+stands_none NoEvent h = refl
+stands_none (Standing e) h = let z : ◌≡◌ {A = ℕ} 0 1 = cc in absurd (omega arith)
+stands_none (Revoked e) h = refl
+
+pub stands_some : (held : Day) (e : Event) → standing_event held ≡ Some e → held ≡ Standing e
+stands_some NoEvent e h = let z : ◌≡◌ {A = ℕ} 0 1 = cc in absurd (omega arith)
+stands_some (Standing x) e h = ap Standing cc
+stands_some (Revoked x) e h = let z : ◌≡◌ {A = ℕ} 0 1 = cc in absurd (omega arith)
 
 pub quiet_day : (s : Season) (x : Site) (t : Table) (d : ℕ) (list : HourList) (number : ℕ) →
     standing s d ≡ false →

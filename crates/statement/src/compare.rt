@@ -15,6 +15,7 @@ use tariff::statement::{Statement, StatementRefusal};
 
 impl Request<'_> {
     // Settles it on a first meter and then on a second: the first refusal stops it.
+    // The two meters stay two parameters: a pair of lent meters would be made and taken apart at each call.
     fn both<M: Meter, N: Meter>(
         &self,
         first: &mut M,

@@ -30,6 +30,7 @@ pub(crate) fn comparison_of(season: &Season, day: u8) -> ComparisonDays
 }
 
 // An event as it is measured: with the hour of the day in which its notice fell.
+// The day's bound stays a clause, as in measuring a day.
 pub(crate) fn span_of(number: u8, day: u8, event: Event) -> EventSpan
     requires day { day ≤ 75 }
     requires four { event.length ≤ 4 }

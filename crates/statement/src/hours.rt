@@ -36,7 +36,8 @@ pub(crate) fn push_event(list: &mut HourList, year: u32, event: &MeasuredEvent)
     ensures hours { measured_of_list list.new ≡ measured_of_list list.old ++ take event.now.count event.now.hours }
     ensures weeks { AllByRecursion (InYear year) (listed list.new) }
 {
-    for hour in &event.hours[..event.count as usize] {
+    for hour in &event.hours[..usize::from(event.count)] {
+        // There is room, so no push is refused.
         let _ = list.push(placed(year, *hour));
     }
 }

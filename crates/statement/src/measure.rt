@@ -18,9 +18,10 @@ fn next_number(number: u8, held: Day) -> u8
     requires { number ≤ 76 }
     ensures { result ≡ number + (if stands held then 1 else 0) }
 {
-    match held {
-        Day::Standing(_) => number + 1,
-        Day::NoEvent | Day::Revoked(_) => number,
+    if held.standing().is_some() {
+        number + 1
+    } else {
+        number
     }
 }
 
@@ -43,14 +44,12 @@ impl SeasonSite<'_> {
     {
         let held = self.season.day(u32::from(day));
         let next = next_number(number, held);
-        match held {
-            Day::Standing(event) => {
-                let measured = self.measure_standing(meter, day, event, number)?;
-                push_event(list, self.season.year(), &measured);
-                Ok(next)
-            }
-            Day::NoEvent | Day::Revoked(_) => Ok(next),
-        }
+        let Some(event) = held.standing() else {
+            return Ok(next);
+        };
+        let measured = self.measure_standing(meter, day, event, number)?;
+        push_event(list, self.season.year(), &measured);
+        Ok(next)
     }
 
     // Measures the standing events of a season, day by day, or tells the first fault.
@@ -63,7 +62,7 @@ impl SeasonSite<'_> {
     {
         self.season.stays_sound();
         let mut list = HourList::none();
-        // Only a day on which an event stands moves the number on, so it is no index of the days.
+        // By the day's number, which is what is passed on. Only a day on which an event stands moves the number of the event on.
         let mut number = 1;
         for day in 0..76u8 {
             number = self.measure_day(meter, day, number, &mut list)?;

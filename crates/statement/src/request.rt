@@ -12,6 +12,7 @@ use tariff::statement::{Statement, StatementRefusal};
 
 // Fills the caller's record with the statement of a site of a closed season, read through a meter, and answers the number of its
 // event hours. A refusal leaves the record as it was. Refused or not, the meter's table stays.
+// The caller's record is filled, and no statement is answered, so that a refusal leaves what it held.
 pub fn statement<M: Meter>(
     season: &Season,
     site: u32,

@@ -16,6 +16,7 @@ pub(crate) struct SeasonSite<'a> {
 
 impl SeasonSite<'_> {
     // The site's nomination for the week of a day, in kW.
+    // The day's bound stays a clause, as in measuring a day.
     pub(crate) fn nomination_on(&self, day: u8) -> u32
         requires { day ≤ 75 }
         ensures { result ≡ nomination_for self.now.site.now (spec.week_of (view self.now.season.now).year day) }

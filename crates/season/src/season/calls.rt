@@ -45,6 +45,7 @@ impl Season {
     }
 
     // Enrols a site of a kind with one figure in kW for all weeks, and answers its number, counted from 1.
+    // The kind is any number, as in a call as a value: those of no kind are refused.
     pub fn enrol(&mut self, moment: u32, kind: u32, kw: u32) -> Result<u32, SeasonRefusal>
         ensures answer { result ≡ spec.enrol_answer (view self.old) moment kind kw }
         ensures after { view self.new ≡ spec.after (view self.old) (Enrol moment kind kw) (spec.as_answer SiteNumber result) }
@@ -56,6 +57,7 @@ impl Season {
     }
 
     // Takes a site's figure in kW for a week and all later weeks, and answers the week.
+    // Site, week and figure stay parameters: a record of them would be made for this call and taken apart in it.
     pub fn nominate(
         &mut self,
         moment: u32,

@@ -1,4 +1,4 @@
-use Rattle.std.proofs.Common.{◌-◌, ◌∙◌, arith}
+use Rattle.std.proofs.Common.{◌∙◌, arith}
 use Rattle.season.proofs.HourLists.{listed_more}
 use Rattle.season.specs.Hours.{hours_listed}
 use Rattle.tariff.specs.Events.{event_hour}
