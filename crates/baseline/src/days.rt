@@ -19,14 +19,14 @@ fn all_within(days: &[u8; 10]) -> bool
 
 impl ComparisonDays {
     // Takes ten days, the latest first; none where one of them is no day of the summer.
+    // An `if` and no `then`, whose closure would need two clauses to say what the type asks of its days.
     pub fn new(days: [u8; 10]) -> Option<ComparisonDays>
         ensures { option_map (λ x. x.days) result ≡ days_taken days }
     {
-        all_within(&days).then(
-            ||
-                requires { (k : ℕ) → k < 10 → slice_index days k ≤ 75 }
-                ensures { result.days ≡ days }
-            { ComparisonDays { days } },
-        )
+        if all_within(&days) {
+            Some(ComparisonDays { days })
+        } else {
+            None
+        }
     }
 }
