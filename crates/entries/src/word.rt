@@ -112,9 +112,8 @@ fn other_figure(figure: Figure, word: &str) -> Result<u32, EntryFault>
 pub(crate) fn read_figure(figure: Figure, word: &str) -> Result<u32, EntryFault>
     ensures { result ≡ figure_of figure word.now }
 {
-    match number(word) {
-        Ok(value) => Ok(value),
-        Err(NumberFault::TooLarge) => Err(EntryFault::NumberTooLarge),
-        Err(NumberFault::NoNumber) => other_figure(figure, word),
-    }
+    number(word).or_else(|fault| match fault {
+        NumberFault::TooLarge => Err(EntryFault::NumberTooLarge),
+        NumberFault::NoNumber => other_figure(figure, word),
+    })
 }
