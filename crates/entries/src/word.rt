@@ -11,6 +11,7 @@ use text::number::{NumberFault, number};
 use text::stamp::stamp;
 
 // What the first word of an entry makes it.
+// An enum of what a line asks for, matched once, and no table of functions: what each reads is stated of the value.
 #[derive(Clone, Copy)]
 pub(crate) enum Keyword {
     Label,
