@@ -11,6 +11,7 @@ use text::number::{NumberFault, number};
 use text::stamp::stamp;
 
 // What the first word of an entry makes it.
+// An enum of what a line asks for, matched once, and no table of functions: what each reads is stated of the value.
 #[derive(Clone, Copy)]
 pub(crate) enum Keyword {
     Label,
@@ -112,9 +113,8 @@ fn other_figure(figure: Figure, word: &str) -> Result<u32, EntryFault>
 pub(crate) fn read_figure(figure: Figure, word: &str) -> Result<u32, EntryFault>
     ensures { result ≡ figure_of figure word.now }
 {
-    match number(word) {
-        Ok(value) => Ok(value),
-        Err(NumberFault::TooLarge) => Err(EntryFault::NumberTooLarge),
-        Err(NumberFault::NoNumber) => other_figure(figure, word),
-    }
+    number(word).or_else(|fault| match fault {
+        NumberFault::TooLarge => Err(EntryFault::NumberTooLarge),
+        NumberFault::NoNumber => other_figure(figure, word),
+    })
 }

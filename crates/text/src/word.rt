@@ -15,6 +15,7 @@ fn first_solid(line: &str) -> Option<usize>
 }
 
 // The line from its first byte on that is no blank.
+// By places and no trim of the library: a text is cut where the definitions count its bytes.
 #[tactic(auto, using(crate::proofs::Blanks::word_boundary, crate::proofs::Blanks::word_begins, crate::proofs::Blanks::all_blank))]
 fn unblank(line: &str) -> &str
     ensures { result.now ≡ unblanked line.now }
