@@ -82,8 +82,7 @@ impl Season {
         ensures apart { SitesStandApart }
     {
         sites_stand_apart();
-        let mut answers =
-            Vec::with_capacity(heap, calls.len()).map_err(|_| ListRefusal::NoMemory)?;
+        let mut answers = Vec::with_capacity(heap, calls.len()).map_err(|_| ListRefusal::NoMemory)?;
         self.open(year)?;
         self.make_calls(calls, &mut answers);
         Ok(answers)
