@@ -56,19 +56,26 @@ fn pair_name<'a>(meter: &BatchMeter<'a>) -> Option<&'a str> {
 impl Unstated<'_> {
     // Whose load is not there, or whose loads are too much together.
     fn write_meters<W: Write>(self, f: &mut Formatter<W>, gap: Gap) -> fmt::Result {
-        let standing = self.meters.standing_in(self.asked)?;
+        let marks = self.meters.standing_in(self.asked)?;
+        let standing = self
+            .meters
+            .list
+            .iter()
+            .zip(marks.iter())
+            .filter(|(_, stands)| **stands);
         match gap {
             Gap::Missing(number) => {
                 write!(f, "{INDENT}the meter is ")?;
-                let names = standing
-                    .iter()
-                    .filter_map(|meter| table_name(meter, number));
+                let names = standing.filter_map(|(handed, _)| table_name(&handed.meter, number));
                 f.write_joined(names, " and ")?;
                 writeln!(f, ", made with number {number}")
             }
             Gap::Over => {
                 write!(f, "{INDENT}its meters are paired in ")?;
-                f.write_joined(standing.iter().filter_map(pair_name), " and ")?;
+                f.write_joined(
+                    standing.filter_map(|(handed, _)| pair_name(&handed.meter)),
+                    " and ",
+                )?;
                 writeln!(f, "")
             }
         }

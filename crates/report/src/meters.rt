@@ -1,8 +1,18 @@
 // The meters of a batch, by their places in its list.
+ghost use Rattle.std.specs.Prelude.{◌≡◌, length, set, true, IfOk, vec_len};
+
 use crate::settled::HandedIn;
 use batch::plan::BatchMeter;
 use std::alloc::{AllocError, Global};
-use std::collections::BTreeSet;
+
+// Marks a place, where it is one of those that have a mark.
+fn mark(marks: &mut [bool], place: usize)
+    ensures { marks.new ≡ set marks.old place true }
+{
+    if place < marks.len() {
+        marks[place] = true;
+    }
+}
 
 #[derive(Clone, Copy)]
 pub(crate) struct Meters<'a> {
@@ -18,31 +28,23 @@ impl<'a> Meters<'a> {
             .map_or("", |handed| handed.meter.name())
     }
 
-    // The places of the meters that stand in those at some places: these, and the two of each pair that is among them. The two of a
-    // pair stand before it.
-    fn places_in(self, places: &[usize]) -> Result<BTreeSet<usize>, AllocError> {
-        let mut within = BTreeSet::new(self.heap);
+    // Which meters stand in those at some places, place by place: these, and the two of each pair that is so. The two of a pair stand
+    // before it.
+    pub(crate) fn standing_in(self, places: &[usize]) -> Result<Vec<bool>, AllocError>
+        ensures { IfOk result (λ marks. vec_len marks ≡ length self.entry.list.now) }
+    {
+        let mut marks = vec![in self.heap; false; self.list.len()]?;
         for place in places {
-            within.insert(*place)?;
+            mark(&mut marks, *place);
         }
         for (place, handed) in self.list.iter().enumerate().rev() {
-            if let BatchMeter::Pair { first, second, .. } = handed.meter
-                && within.contains(&place)
+            if marks.get(place) == Some(&true)
+                && let BatchMeter::Pair { first, second, .. } = handed.meter
             {
-                within.insert(first)?;
-                within.insert(second)?;
+                mark(&mut marks, first);
+                mark(&mut marks, second);
             }
         }
-        Ok(within)
-    }
-
-    // The meters that stand in those at some places, in the order of the batch.
-    pub(crate) fn standing_in(self, places: &[usize]) -> Result<Vec<BatchMeter<'a>>, AllocError> {
-        let within = self.places_in(places)?;
-        within
-            .iter()
-            .filter_map(|place| self.list.get(*place))
-            .map(|handed| handed.meter)
-            .collect(self.heap)
+        Ok(marks)
     }
 }
