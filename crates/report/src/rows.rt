@@ -152,19 +152,19 @@ impl Display for StatementRows<'_> {
     }
 }
 
-// The rows of a meter's refused readings.
-fn write_readings<W: Write>(f: &mut Formatter<W>, handed: &HandedIn<'_>) -> fmt::Result {
+// The rows of a meter's refused readings. The name of its file is made a field once, for all of them.
+fn write_readings<W: Write>(
+    f: &mut Formatter<W>,
+    heap: Global,
+    handed: &HandedIn<'_>,
+) -> fmt::Result {
     let BatchMeter::Table { file, .. } = handed.meter else {
         return Ok(());
     };
+    let file = format!(in heap; "{}", Field(file))?;
     for reading in handed.refused.iter() {
         let number = reading.refusal.number();
-        writeln!(
-            f,
-            "reading,{},{},refused,{number}",
-            Field(file),
-            reading.line
-        )?;
+        writeln!(f, "reading,{file},{},refused,{number}", reading.line)?;
     }
     Ok(())
 }
@@ -187,9 +187,10 @@ fn write_compared<W: Write>(
     }
 }
 
-// The rows of a step, which stands in a line of the batch.
+// The rows of a step, which stands in a line of the batch, and the heap on which a file's name is made a field.
 #[derive(Clone, Copy)]
 struct StepRows<'a> {
+    heap: Global,
     line: usize,
     told: Told<'a>,
 }
@@ -212,7 +213,7 @@ impl Display for StepRows<'_> {
                     Err(refusal) => writeln!(f, "refused,{}", refusal.number()),
                 }
             }
-            Told::Metered(handed) => write_readings(f, handed),
+            Told::Metered(handed) => write_readings(f, self.heap, handed),
             Told::Stated(Stated { site, answer, .. }) => {
                 write!(f, "call,{line},statement,")?;
                 match answer {
@@ -250,7 +251,7 @@ pub fn rows(heap: Global, settled: &Settled<'_>) -> Result<String, AllocError> {
     for (step, outcome) in settled.steps.iter().zip(settled.done.outcomes.iter()) {
         if let Some(told) = teller.tell(step.task, *outcome) {
             let line = step.line;
-            write!(text, "{}", StepRows { line, told })?;
+            write!(text, "{}", StepRows { heap, line, told })?;
         }
     }
     write_counts(&mut text, settled.label, settled.counts)?;
