@@ -3,3 +3,4 @@ pub mod Steps
 pub mod Back
 pub mod Limits
 pub mod Said
+pub mod Comments
