@@ -12,40 +12,48 @@ use tariff::season::{Day, Event, EventHour};
 pub struct EventHours {
     pub hours: [EventHour; 60],
     pub count: usize,
-    pub ghost cells: { length hours ≡ 60 },
-    pub ghost within: { count ≤ 60 },
-    pub ghost rest: { RestZero count hours },
 }
 
-impl EventHours {
+// The hours as they are listed, with what is known of the list at each step.
+#[derive(Clone, Copy)]
+pub(crate) struct HoursSoFar {
+    pub(crate) list: EventHours,
+    ghost cells: { length list.hours ≡ 60 },
+    ghost within: { list.count ≤ 60 },
+    ghost rest: { RestZero list.count list.hours },
+}
+
+impl HoursSoFar {
     ghost use Rattle.season.specs.Hours.{hours_listed};
 
     // No hours yet.
-    pub(crate) fn new() -> EventHours
-        ensures { result.count ≡ 0 }
+    pub(crate) fn new() -> HoursSoFar
+        ensures { result.list.count ≡ 0 }
     {
-        EventHours {
-            hours: [EventHour::default(); 60],
-            count: 0,
+        HoursSoFar {
+            list: EventHours {
+                hours: [EventHour::default(); 60],
+                count: 0,
+            },
         }
     }
 
     // Adds one hour at the end.
     fn push(&mut self, hour: EventHour)
-        requires { self.old.count < 60 }
-        ensures list { hours_listed self.new ≡ hours_listed self.old ++ (hour ∷ []) }
-        ensures one { self.new.count ≡ self.old.count + 1 }
+        requires { self.old.list.count < 60 }
+        ensures list { hours_listed self.new.list ≡ hours_listed self.old.list ++ (hour ∷ []) }
+        ensures one { self.new.list.count ≡ self.old.list.count + 1 }
     {
-        self.hours[self.count] = hour;
-        self.count += 1;
+        self.list.hours[self.list.count] = hour;
+        self.list.count += 1;
     }
 
     // Adds the hours of an event, rising.
     fn push_event(&mut self, number: u8, day: u8, event: Event)
-        requires room { self.old.count + event.length ≤ 60 }
+        requires room { self.old.list.count + event.length ≤ 60 }
         requires ends { event.start + event.length ≤ 24 }
-        ensures list { hours_listed self.new ≡ hours_listed self.old ++ map (event_hour number day) (range_with_len event.start event.length) }
-        ensures more { self.new.count ≡ self.old.count + event.length }
+        ensures list { hours_listed self.new.list ≡ hours_listed self.old.list ++ map (event_hour number day) (range_with_len event.start event.length) }
+        ensures more { self.new.list.count ≡ self.old.list.count + event.length }
     {
         // by the hour's number, which each entry holds
         for hour in event.start..event.start + event.length {
@@ -59,10 +67,10 @@ impl EventHours {
 
     // Adds the hours of the event that stands on a day, if one does.
     pub(crate) fn push_day(&mut self, number: u8, day: u8, held: Day)
-        requires room { self.old.count + day_hours held ≤ 60 }
+        requires room { self.old.list.count + day_hours held ≤ 60 }
         requires ends { stands held ≡ true → (event_of held).start + (event_of held).length ≤ 24 }
-        ensures list { hours_listed self.new ≡ hours_listed self.old ++ hours_on number day held }
-        ensures more { self.new.count ≡ self.old.count + day_hours held }
+        ensures list { hours_listed self.new.list ≡ hours_listed self.old.list ++ hours_on number day held }
+        ensures more { self.new.list.count ≡ self.old.list.count + day_hours held }
     {
         if let Some(event) = held.standing() {
             self.push_event(number, day, event);

@@ -6,24 +6,30 @@ ghost use Rattle.tariff.specs.Comparison as spec;
 ghost use Rattle.tariff.specs.Events.{event_hours_before};
 ghost use Rattle.tariff.specs.Season as model;
 ghost use Rattle.season.specs.Hours.{Placed, hours_listed};
+ghost use Rattle.season.specs.Rest.{RestZero};
 ghost use Rattle.season.specs.View.{view};
 
 use super::Season;
-use crate::hours::EventHours;
+use crate::events::stands;
+use crate::hours::{EventHours, HoursSoFar};
 
 impl Season {
     // The hours of the standing events of the first days, by day and hour.
-    fn hours_before(&self, days: u8) -> EventHours
+    fn hours_before(&self, days: u8) -> HoursSoFar
         requires { days ≤ 76 }
-        ensures is { hours_listed result ≡ event_hours_before (view self.now).days days }
-        ensures counted { result.count ≡ length (event_hours_before (view self.now).days days) }
-        ensures placed { AllByRecursion (Placed (view self.now)) (hours_listed result) }
+        ensures is { hours_listed result.list ≡ event_hours_before (view self.now).days days }
+        ensures counted { result.list.count ≡ length (event_hours_before (view self.now).days days) }
+        ensures placed { AllByRecursion (Placed (view self.now)) (hours_listed result.list) }
     {
-        let mut hours = EventHours::new();
-        // by the day's number, since each hour tells it and the event's number follows from it
+        let mut hours = HoursSoFar::new();
+        let mut numbered = 0;
+        // by the day's number, which each hour tells
         for day in 0..days {
-            let number = self.events.standing_before(u32::from(day)) as u8 + 1;
-            hours.push_day(number, day, self.day(u32::from(day)));
+            let held = self.day(u32::from(day));
+            hours.push_day(numbered + 1, day, held);
+            if stands(held) {
+                numbered += 1;
+            }
         }
         hours
     }
@@ -32,9 +38,12 @@ impl Season {
     pub fn event_hours(&self) -> EventHours
         ensures is { hours_listed result ≡ model.season_event_hours (view self.now) }
         ensures counted { result.count ≡ length (model.season_event_hours (view self.now)) }
+        ensures cells { length result.hours ≡ 60 }
+        ensures within { result.count ≤ 60 }
+        ensures rest { RestZero result.count result.hours }
         ensures placed { AllByRecursion (Placed (view self.now)) (hours_listed result) }
     {
-        self.hours_before(76)
+        self.hours_before(76).list
     }
 
     // The latest comparable day before a day, where there is one.

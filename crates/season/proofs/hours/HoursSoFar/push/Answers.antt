@@ -1,7 +1,7 @@
 use Rattle.std.proofs.Common.{arith, length-set}
 use Rattle.season.specs.Rest.{no_hour}
 use Rattle.season.proofs.HourLists.{rest_more}
-use Rattle.season.proofs.hours.EventHours.push.Goals as goal
+use Rattle.season.proofs.hours.HoursSoFar.push.Goals as goal
 
 pub invariant_of-self : goal.invariant_of-self
 invariant_of-self c =
@@ -9,5 +9,5 @@ invariant_of-self c =
     record {
       cells = simp length-set s.cells;
       within = omega arith;
-      rest = rest_more s.hours s.count c.args.hour no_hour s.rest;
+      rest = rest_more s.list.hours s.list.count c.args.hour no_hour s.rest;
     }
