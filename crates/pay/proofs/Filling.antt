@@ -1,12 +1,13 @@
 -- Arrays of lines that are made place by place.
-use Rattle.std.proofs.Common.{◌≡◌, ℕ, zero, suc, ◌+◌, ◌-◌, ◌<◌, ◌≤◌, List, [], ◌∷◌, ◌++◌, map, length, get_or, replicate, subst, sym, refl, ap, ap₂, ◌∙◌, inl, inr, arith}
+use Rattle.std.proofs.Common.{◌≡◌, ℕ, zero, suc, ◌+◌, ◌-◌, ◌<◌, ◌≤◌, ◌≢◌, Some, List, [], ◌∷◌, ◌++◌, map, length, get_or, set, replicate, below_more, get_or-set_other, get_or-set_same, subst, sym, refl, ap, ap₂, ◌∙◌, inl, inr, arith}
 use lib.ListN.{length-map}
 use denote.Param.Members.{Mut, Called}
 use Rattle.std.specs.Array.{IsFromFnResultFrom}
 use Rattle.std.specs.List.{range_with_len, slice_get}
 use Rattle.std.specs.Option.{option_map_or}
 use Rattle.std.proofs.lemmas.Bool.{cases_eq, cases_lt}
-use Rattle.std.proofs.lemmas.List.{get_or_past}
+use Rattle.std.proofs.lemmas.List.{get_or_past, get_or-replicate}
+use Rattle.std.proofs.lemmas.Option.{slice_get-get_or, slice_get_past}
 use Rattle.std.proofs.lemmas.List.FromFn.{length-map-range_with_len, get_or-map-range_with_len}
 use Rattle.tariff.specs.Pay.{filled, priced, no_hour, no_week}
 use Rattle.tariff.specs.declared.statement.HourLine.{HourLine}
@@ -54,6 +55,31 @@ line_at (p ∷ hours) (suc k) = line_at hours k
 
 pub hours_filled : (hours : List PlacedHour) (ls : List HourLine) → length hours ≤ 60 → length ls ≡ 60 → ((k : ℕ) → k < 60 → get_or ls k no_hour ≡ option_map_or line_of (slice_get hours k) no_hour) → ls ≡ filled no_hour 60 (hour_lines_of hours)
 hours_filled hours ls l m h = filled_is no_hour 60 (hour_lines_of hours) ls (omega (arith, lines_are hours)) m (λ k i. h k i ∙ sym (line_at hours k))
+
+-- the lines of the first n hours are filled in, and the other places are zero
+pub record LinesTo (hours : List PlacedHour) (n : ℕ) (ls : List HourLine) : Type 0 where
+  pub used : (k : ℕ) → k < n → get_or ls k no_hour ≡ option_map_or line_of (slice_get hours k) no_hour
+  pub rest : (k : ℕ) → n ≤ k → k < 60 → get_or ls k no_hour ≡ no_hour
+
+pub lines_none : (hours : List PlacedHour) (z : HourLine) → z ≡ no_hour → LinesTo hours 0 (replicate 60 z)
+lines_none hours z is = record { used = λ k l. absurd (omega arith); rest = λ k l m. get_or-replicate 60 k z no_hour m ∙ is }
+
+pub lines_more : (hours : List PlacedHour) (n : ℕ) (ls : List HourLine) (y : HourLine) (p : PlacedHour) → n < length hours → n < length ls → p ≡ get_or hours n p → y ≡ line_of p → LinesTo hours n ls → LinesTo hours (n + 1) (set ls n y)
+lines_more hours n ls y p l m at is so =
+    record {
+      used =
+          below_more _ _
+          (λ k h. let ne : k ≢ n = omega arith in rw get_or-set_other (so.used k h))
+          (rw get_or-set_same (is ∙ sym (ap (λ o. option_map_or line_of o no_hour) (slice_get-get_or hours n p l ∙ ap Some (sym at)))));
+      rest = λ k h m. let ne : k ≢ n = omega arith in rw get_or-set_other (so.rest k (omega arith) m);
+    }
+
+pub lines_all : (hours : List PlacedHour) (n : ℕ) (ls : List HourLine) → length hours ≤ n → LinesTo hours n ls → (k : ℕ) → k < 60 → get_or ls k no_hour ≡ option_map_or line_of (slice_get hours k) no_hour
+lines_all hours n ls past so k m =
+    elim (cases_lt k n) [
+      | inl q ↦ so.used k q
+      | inr q ↦ so.rest k q m ∙ sym (ap (λ o. option_map_or line_of o no_hour) (slice_get_past hours k (omega arith)))
+    ]
 
 -- ---- week lines
 

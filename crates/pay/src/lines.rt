@@ -1,6 +1,5 @@
-ghost use Rattle.std.specs.Prelude.{◌≡◌, ◌+◌, ◌<◌, ◌≤◌, sum_by, slice_get};
-ghost use Rattle.std.specs.Option.{option_map_or};
-ghost use Rattle.tariff.specs.Pay.{filled, priced, «no_hour», «no_week»};
+ghost use Rattle.std.specs.Prelude.{◌≡◌, ◌+◌, ◌<◌, ◌≤◌, sum_by};
+ghost use Rattle.tariff.specs.Pay.{filled, «no_hour», «no_week»};
 ghost use Rattle.pay.specs.Paying.{«hour_lines_of», «week_line_in», «week_lines_of»};
 
 use crate::summer::Summer;
@@ -9,18 +8,15 @@ use std::array;
 use tariff::statement::{HourLine, WeekLine};
 
 impl Summer<'_> {
-    // The line of the k-th hour, counted from 0; zero where there is none.
-    fn hour_line(&self, k: usize) -> HourLine
-        ensures { result ≡ option_map_or (λ p. priced p.measured) (slice_get self.now.hours.now k) no_hour }
-    {
-        self.hours.get(k).map(rates::priced).unwrap_or_default()
-    }
-
     // The lines of the hours; those that are not used are zero.
     pub(crate) fn hour_lines(&self) -> [HourLine; 60]
         ensures { result ≡ filled no_hour 60 (hour_lines_of self.now.hours.now) }
     {
-        array::from_fn(|k| self.hour_line(k))
+        let mut lines = [HourLine::default(); 60];
+        for (k, hour) in self.hours.iter().enumerate() {
+            lines[k] = rates::priced(hour);
+        }
+        lines
     }
 
     // The line of the k-th week, counted from 0; zero past the last.

@@ -1,13 +1,20 @@
-use Rattle.std.proofs.Common.{◌≡◌, refl, rules, tests, arith}
-use Rattle.std.specs.List.{slice_get}
-use Rattle.std.specs.Option.{option_map_or}
-use Rattle.tariff.specs.Pay.{no_hour}
-use Rattle.pay.proofs.Filling.{calls_at, line_of, hours_filled}
+use Rattle.std.proofs.Common.{refl, ◌∙◌, arith, rules, length-set}
+use Rattle.pay.proofs.Filling.{hours_filled, lines_none, lines_more, lines_all}
 use Rattle.pay.proofs.summer.Summer.hour_lines.Goals as goal
+
+pub loop-k-init : goal.loop-k-init
+loop-k-init c = (refl, lines_none c.args.self.now.hours.now c.default-lines.result (search rules))
+
+pub loop-k-preserved : goal.loop-k-preserved
+loop-k-preserved c =
+    let k = c.loop-k.k in
+    let ls = c.loop-k.lines in
+    let y = c.priced.result in
+    let inv = c.loop-k.invariant in
+    (length-set ls k y ∙ inv.0, lines_more c.args.self.now.hours.now k ls y c.hour-item.result (omega arith) (omega (arith, c.args.self.now.few)) c.hour-item.is c.priced.ensures inv.1)
 
 pub returns : goal.returns
 returns c =
     let hours = c.args.self.now.hours.now in
-    let items = c.from_fn.ensures.items in
-    hours_filled hours c.from_fn.result c.args.self.now.few items.long (λ k l.
-    calls_at _ _ (λ i y. y ≡ option_map_or line_of (slice_get hours i) no_hour) (λ i y q h. search (rules, tests)) 60 0 _ c.from_fn.result refl items.each k no_hour (omega arith) (omega arith))
+    let inv = c.loop-k.invariant in
+    hours_filled hours c.loop-k.lines c.args.self.now.few inv.0 (lines_all hours c.loop-k.k c.loop-k.lines (omega arith) inv.1)
