@@ -38,7 +38,10 @@ fn run(rt: &HostRuntime) -> anyhow::Result<()> {
     };
     let mut record = Statement::default();
     match statement(&season, 1, &mut meter, &mut record) {
-        Ok(hours) => println!(rt; "{hours} event hours, paid {} cents", record.paid)?,
+        Ok(hours) => {
+            let paid = record.paid;
+            println!(rt; "{hours} event hours, paid {paid} cents")?;
+        }
         Err(refusal) => println!(rt; "refused with number {}", refusal.number())?,
     }
     Ok(())
