@@ -10,7 +10,7 @@ use Rattle.std.proofs.lemmas.List.Sorted.{sorted_far, ranks_by, All-permutation,
 use Rattle.std.proofs.lemmas.List.{ext_get_or, get_or_default}
 use Rattle.std.proofs.lemmas.Bool.{cases_eq, cases_lt, cases_order, eqb-false}
 use Rattle.tariff.specs.Highest.{total_at, GoesBefore, Highest}
-use Rattle.baseline.specs.Ranked.{before, Ranked}
+use Rattle.baseline.specs.Ranked.{before, firsts, Ranked}
 
 before_orders : IsStrictWeakOrder before
 before_orders = ranks_by {R = λ (x y : ℕ × ℕ). ordering_then (nat_cmp y.0 x.0) (nat_cmp x.1 y.1)} (search rules) (λ (x : ℕ × ℕ). x)
@@ -79,9 +79,6 @@ module _ (totals : List ℕ) where
     same_three = let a = h.three in let b = i.three in ext_get_or 0 ps qs (omega arith) (λ k l. up_to 3 (omega arith) k (omega arith))
 
   -- the first three places of a list of totals with their places, in order, that has every place
-  abbrev pub firsts : List (ℕ × ℕ) → List ℕ
-  firsts xs = (get_or xs 0 (0, 0)).1 ∷ (get_or xs 1 (0, 0)).1 ∷ (get_or xs 2 (0, 0)).1 ∷ []
-
   module _ (xs : List (ℕ × ℕ)) (long : 3 ≤ length xs) (within : (k : ℕ) → k < length xs → (get_or xs k (0, 0)).1 < length totals) (order : (j k : ℕ) → j < k → k < length xs → GoesBefore totals (get_or xs j (0, 0)).1 (get_or xs k (0, 0)).1) (every : (p : ℕ) → p < length totals → (k : ℕ) × (k < length xs) × ((get_or xs k (0, 0)).1 ≡ p)) where
     at_place : (k : ℕ) → k < 3 → get_or (firsts xs) k 0 ≡ (get_or xs k (0, 0)).1
     at_place = three_cases (λ k. get_or (firsts xs) k 0 ≡ (get_or xs k (0, 0)).1) refl refl refl

@@ -1,7 +1,7 @@
 ghost use Rattle.std.specs.Prelude.{◌≡◌};
 ghost use Rattle.std.specs.List.Sorted.{IsPermutation};
 ghost use Rattle.tariff.specs.Highest.{«three_highest», Highest};
-ghost use Rattle.baseline.specs.Ranked.{Placed, Ranked};
+ghost use Rattle.baseline.specs.Ranked.{firsts, Placed, Ranked};
 
 use std::array;
 use std::cmp::Reverse;
@@ -38,11 +38,19 @@ fn ranked(mut days: [(u64, usize); 10]) -> [(u64, usize); 10]
     days
 }
 
+// The ten totals with their places in that order: the first three are the highest.
+fn ranked_totals(totals: &[u64; 10]) -> [(u64, usize); 10]
+    ensures value { firsts result ≡ three_highest totals.now }
+    ensures highest { Highest totals.now (firsts result) }
+{
+    ranked(placed(totals))
+}
+
 // The places of the three highest of ten totals, the latest day's first: the highest first, and the later day first among equals.
 pub fn three_highest(totals: &[u64; 10]) -> [usize; 3]
     ensures value { result ≡ three_highest totals.now }
     ensures highest { Highest totals.now result }
 {
-    let [(_, first), (_, second), (_, third), ..] = ranked(placed(totals));
+    let [(_, first), (_, second), (_, third), ..] = ranked_totals(totals);
     [first, second, third]
 }
