@@ -1,6 +1,7 @@
 -- The cells of an hour together, one more at a time.
-use Rattle.std.proofs.Common.{◌≡◌, ℕ, zero, suc, ◌+◌, ◌-◌, ◌<◌, ◌≤◌, List, length, get_or, slice_range, drop, Some, None, Option, sym, ap, ◌∙◌, subst, refl, arith}
+use Rattle.std.proofs.Common.{◌≡◌, ℕ, zero, suc, ◌+◌, ◌-◌, ◌*◌, ◌^◌, ◌<◌, ◌≤◌, min, List, length, get_or, slice_range, drop, Some, None, Option, sym, ap, ◌∙◌, subst, refl, inl, inr, arith}
 use native.Mathlib.Numerals.{unary_clauses}
+use Rattle.std.proofs.lemmas.Bool.{cases_lt}
 use Rattle.std.proofs.lemmas.Bool.Decides.{nat_tests}
 use Rattle.std.proofs.lemmas.List.{get_or-take, get_or-drop}
 use Rattle.meter.specs.Cells.{both, held, together}
@@ -39,6 +40,16 @@ past_end limit cells first zero some l = absurd (omega arith)
 past_end limit cells first (suc k) some l =
     let same : k + 1 ≡ suc k = omega arith in
     subst (λ m. together limit cells first m ≡ None) same (one_without limit cells first k (held_past limit cells (first + k) (omega arith)))
+
+-- the largest number of 64 bits lies past the end of every table, as does a place that is larger
+pub far : (limit : ℕ) (cells : List ℕ) (hour n : ℕ) → length cells < 2 ^ 64 → together limit cells (min (hour * n) (2 ^ 64 - 1)) n ≡ together limit cells (n * hour) n
+unfolding together
+far limit cells hour zero short = refl
+far limit cells hour (suc k) short =
+    elim (cases_lt (hour * suc k) (2 ^ 64)) [
+      | inl l ↦ let same : min (hour * suc k) (2 ^ 64 - 1) ≡ suc k * hour = omega arith in ap (λ first. together limit cells first (suc k)) same
+      | inr g ↦ past_end limit cells (min (hour * suc k) (2 ^ 64 - 1)) (suc k) (omega arith) (omega arith) ∙ sym (past_end limit cells (suc k * hour) (suc k) (omega arith) (omega arith))
+    ]
 
 -- an hour with a cell above the limit has none
 pub above_limit : (limit : ℕ) (cells : List ℕ) (first k n : ℕ) → k < n → limit < get_or cells (first + k) 0 → together limit cells first n ≡ None

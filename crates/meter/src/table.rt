@@ -1,4 +1,3 @@
-ghost use Rattle.std.specs.Prelude.{◌≤◌};
 ghost use Rattle.tariff.specs.Tables.{summer};
 ghost use Rattle.meter.specs.Cells.{tabled};
 
@@ -12,8 +11,6 @@ use tariff::reading::{Gap, Reading};
 pub struct TableMeter<'a, const N: usize> {
     pub cells: &'a [u32],
     pub number: u32,
-    ghost some: { 1 ≤ N },
-    ghost few: { N ≤ 4 },
 }
 
 // A cell to an hour.
@@ -26,7 +23,8 @@ impl<const N: usize> Meter for TableMeter<'_, N> {
     ghost table = { λ m. summer (tabled N m.cells.now m.number) };
 
     fn load(&mut self, at: SummerHour) -> Reading {
-        let first = N * (24 * usize::from(at.day) + usize::from(at.hour));
+        // In 128 bits, which hold every place: N is not bounded.
+        let first = N as u128 * (24 * u128::from(at.day) + u128::from(at.hour));
         hour_at::<N>(self.cells, first).ok_or(Gap::Missing(self.number))
     }
 }

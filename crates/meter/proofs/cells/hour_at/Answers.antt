@@ -5,7 +5,7 @@ use Rattle.meter.proofs.cells.hour_at.Goals as goal
 
 pub returns-in_err-cell-items-clause-sum : goal.returns-in_err-cell-items-clause-sum
 returns-in_err-cell-items-clause-sum g c =
-    c.from_residual.ensures ∙ sym (past_end (100000000 / g.row.N) c.args.cells.now c.args.first g.row.N c.requires.some c.in_err-cell-items.ensures)
+    c.from_residual.ensures ∙ sym (past_end (100000000 / g.row.N) c.args.cells.now c.args.first g.row.N (omega arith) c.in_err-cell-items.ensures)
 
 pub loop-cell-init : goal.loop-cell-init
 unfolding together
