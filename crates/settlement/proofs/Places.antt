@@ -40,7 +40,7 @@ among_front ms p (suc n) h =
     ap (λ (f : ℕ → Option Table). cond (eqb q n) (table_after f (get_or (take p ms) n no_meter)) (f q)) before
     ∙ ap (λ (m : ReadMeter). cond (eqb q n) (table_after (table_among ms n) m) (table_among ms n q)) here)
 
-place_means : (ms : List ReadMeter) (place : ℕ) → place < length ms → table_at ms place ≡ table_after (table_at (take place ms)) (get_or ms place no_meter)
+pub place_means : (ms : List ReadMeter) (place : ℕ) → place < length ms → table_at ms place ≡ table_after (table_at (take place ms)) (get_or ms place no_meter)
 place_means ms place lt =
     let long : length (take place ms) ≡ place = length-take-le place ms (omega arith) in
     let front : table_at (take place ms) ≡ table_among ms place =

@@ -49,6 +49,7 @@ fn choose_pair<'a>(
 
 // The meter at a place of a list of meters. The two meters of a pair are looked up among those before it.
 #[cycle(choose)]
+#[tactic(auto, using(crate::proofs::Places::place_means, crate::proofs::Places::none_past, std::proofs::lemmas::List::get_or_read))]
 pub fn choose<'a>(
     heap: Global,
     meters: &'a [ReadMeter],
