@@ -18,10 +18,12 @@ pub(crate) fn is_mark(mark: Mark, byte: u8) -> bool
 }
 
 // The place of the first byte that is the mark.
+// By `find` over the places and no `position` of the bytes, which counts a place beside its step for each byte.
 fn first_mark(text: &str, mark: Mark) -> Option<usize>
     ensures { result ≡ position (stops_at mark) text.now }
 {
-    text.bytes().position(|byte| is_mark(mark, byte))
+    let bytes = text.as_bytes();
+    (0..bytes.len()).find(|at| is_mark(mark, bytes[*at]))
 }
 
 // Cuts the text at the first mark; without one, the piece is all of it.
