@@ -29,7 +29,7 @@ impl<'a> Meters<'a> {
     }
 
     // Which meters stand in those at some places, place by place: these, and the two of each pair that is so. The two of a pair stand
-    // before it. A mark for each meter of the list and no set of places: each pair of the list is asked for, and a set is slower to ask.
+    // before it. A mark for each meter of the list and no set of places: each meter of the list is asked for, and a set is slower to ask.
     pub(crate) fn standing_in(self, places: &[usize]) -> Result<Vec<bool>, AllocError>
         ensures { IfOk result (λ marks. vec_len marks ≡ length self.entry.list.now) }
     {
